@@ -1,0 +1,4 @@
+pub mod Eid
+pub mod Packet
+pub mod Key
+pub mod Refusals

@@ -1,0 +1,30 @@
+-- Document 01's refusal numbers, one for each name.
+-- Assumes nothing.
+use Prim.Native.Nat.{ℕ}
+use Rattle.mctp.specs.declared.refusal.Refusal.{Refusal}
+use Rattle.mctp.specs.declared.refusal.Refusal.the-variants.{Setup, Room, Size, Address, Command, Count, SourceBit, Pec, Signature, Descriptor, NotRunning, Pointer, BadPacket, OtherKind, Version, NotOurs, Source, NoSlot, NoStart, Sequence, Unit, TooLong}
+
+-- "Refusal numbers": the table, line by line
+abbrev pub numberOf : Refusal → ℕ
+numberOf Setup = 1
+numberOf Room = 2
+numberOf Size = 3
+numberOf Address = 4
+numberOf Command = 5
+numberOf Count = 6
+numberOf SourceBit = 7
+numberOf Pec = 8
+numberOf Signature = 9
+numberOf Descriptor = 10
+numberOf NotRunning = 11
+numberOf Pointer = 12
+numberOf BadPacket = 13
+numberOf OtherKind = 14
+numberOf Version = 15
+numberOf NotOurs = 16
+numberOf Source = 17
+numberOf NoSlot = 18
+numberOf NoStart = 19
+numberOf Sequence = 20
+numberOf Unit = 21
+numberOf TooLong = 22

@@ -1,0 +1,13 @@
+// What a packet is: endpoint IDs, keys, header fields, and the refusals by name and number.
+mod eid;
+mod packet;
+mod refusal;
+
+pub use eid::Eid;
+pub use packet::Header;
+pub use packet::Key;
+pub use packet::LARGEST_BODY;
+pub use packet::header_of;
+pub use packet::key_of;
+pub use packet::same_key;
+pub use refusal::Refusal;

@@ -1,0 +1,58 @@
+// The header of a packet, and the key under which its message is gathered.
+use crate::eid::Eid;
+ghost use mathlib.Core.Path.{_≡_};
+ghost use Rattle.mctp.specs.Key.{keyOf, headerOf, sameKey};
+
+// "64 is the baseline unit": the largest body of the base.
+pub const LARGEST_BODY: usize = 64;
+
+pub struct Key {
+    pub destination: Eid,
+    pub source: Eid,
+    pub owner: bool,
+    pub tag: u8,
+}
+
+pub struct Header {
+    pub version: u8,
+    pub start: bool,
+    pub end: bool,
+    pub sequence: u8,
+    pub key: Key,
+}
+
+// The key of a packet; of a list that is too short, the key of the bytes there are, with 0 for the others.
+pub fn key_of(packet: &[u8]) -> Key
+    ensures { λ r. ⌜ r ≡ keyOf (now (packet .entry)) ⌝ }
+{
+    let flags = octets::byte_at(packet, 3);
+    Key {
+        destination: Eid(octets::byte_at(packet, 1) as u8),
+        source: Eid(octets::byte_at(packet, 2) as u8),
+        owner: flags / 8 % 2 == 1,
+        tag: (flags % 8) as u8,
+    }
+}
+
+// The whole header, read once.
+pub fn header_of(packet: &[u8]) -> Header
+    ensures { λ r. ⌜ r ≡ headerOf (now (packet .entry)) ⌝ }
+{
+    let flags = octets::byte_at(packet, 3);
+    Header {
+        version: (octets::byte_at(packet, 0) % 16) as u8,
+        start: flags / 128 % 2 == 1,
+        end: flags / 64 % 2 == 1,
+        sequence: (flags / 16 % 4) as u8,
+        key: key_of(packet),
+    }
+}
+
+pub fn same_key(a: Key, b: Key) -> bool
+    ensures { λ r. ⌜ r ≡ sameKey a b ⌝ }
+{
+    (a.destination.0 == b.destination.0)
+        & (a.source.0 == b.source.0)
+        & (a.owner == b.owner)
+        & (a.tag == b.tag)
+}

@@ -1,0 +1,32 @@
+-- Choosing by tests: what a choice says of its test, and of both tests of a pair.
+-- Assumes nothing.
+use mathlib.Core.Path.{_≡_, refl, sym, _∙_}
+use mathlib.Core.Bool.{Bool, true, false, _&&_, false≢true}
+use Prim.Native.Nat.{ℕ, suc, _≤_}
+use native.Mathlib.Nat.{suc-ne-zero}
+use borrow.Author.Tests.{leb-true, le-leb}
+use lib.Dec.{leb}
+use Rattle.octets.specs.Choice.{pick, within}
+
+-- two results that one equation allows are equal
+pub determined : {A : Type 0} {x a b : A} → a ≡ x → b ≡ x → a ≡ b
+determined p q = p ∙ sym q
+
+-- a check order that ends in 0 went past this check
+pub passed : (t : Bool) (n x : ℕ) → pick t (suc n) x ≡ 0 → (t ≡ false) × (x ≡ 0)
+passed true n x e = absurd (suc-ne-zero n e)
+passed false n x e = (refl, e)
+
+-- both tests of a pair hold
+pub both : (a b : Bool) → (a && b) ≡ true → (a ≡ true) × (b ≡ true)
+both true b e = (refl, e)
+both false b e = absurd (false≢true e)
+
+-- a number within two bounds
+pub within-bounds : (low high n : ℕ) → within low high n ≡ true → (low ≤ n) × (n ≤ high)
+within-bounds low high n e =
+    let h = both (leb low n) (leb n high) e in
+    (leb-true low n (h .0), leb-true n high (h .1))
+
+pub within-holds : (low high n : ℕ) → low ≤ n → n ≤ high → within low high n ≡ true
+within-holds low high n h k = rw (le-leb low n h, le-leb n high k)
