@@ -1,0 +1,171 @@
+/* One SMBus arrival in plain C: the frame's checks, the state check, the message rules. For the comparison alone. */
+#include <stddef.h>
+#include <stdint.h>
+#include <string.h>
+
+enum { REFUSED, HELD, DONE };
+
+struct answer {
+    int kind;
+    unsigned slot, value;
+    int again;
+};
+
+struct key {
+    uint8_t destination, source, owner, tag;
+};
+
+struct slot {
+    int gathering;
+    struct key key;
+    uint8_t sequence;
+    uint32_t unit, held;
+};
+
+struct receiver {
+    uint8_t own;
+    struct slot slots[4];
+};
+
+/* filled once, from the polynomial */
+static uint8_t remainders[256];
+
+__attribute__((constructor)) static void fill_remainders(void)
+{
+    for (int i = 0; i < 256; i++) {
+        uint8_t r = (uint8_t)i;
+        for (int bit = 0; bit < 8; bit++)
+            r = (uint8_t)((r << 1) ^ (r & 0x80 ? 7 : 0));
+        remainders[i] = r;
+    }
+}
+
+static uint8_t pec(const uint8_t *s, size_t n)
+{
+    uint8_t r = 0;
+    for (size_t i = 0; i < n; i++)
+        r = remainders[r ^ s[i]];
+    return r;
+}
+
+static unsigned frame_refusal(const uint8_t *frame, size_t n, uint8_t own)
+{
+    if (own > 127)
+        return 1;
+    if (n < 10 || n > 73)
+        return 3;
+    if (frame[0] != own * 2)
+        return 4;
+    if (frame[1] != 0x0F)
+        return 5;
+    if ((size_t)frame[2] + 4 != n)
+        return 6;
+    if (!(frame[3] & 1))
+        return 7;
+    if (pec(frame, n - 1) != frame[n - 1])
+        return 8;
+    return 0;
+}
+
+static int same_key(struct key a, struct key b)
+{
+    return a.destination == b.destination && a.source == b.source && a.owner == b.owner && a.tag == b.tag;
+}
+
+static int ours(const struct receiver *r, uint8_t destination)
+{
+    return destination == r->own || destination == 0 || destination == 255;
+}
+
+static int slot_right(const struct receiver *r, const struct slot *s)
+{
+    return !s->gathering
+           || (ours(r, s->key.destination) && s->key.tag <= 7 && s->sequence <= 3 && s->unit >= 1 && s->unit <= 64 && s->held >= 1
+               && s->held <= 1024 && s->held % s->unit == 0);
+}
+
+static int state_right(const struct receiver *r)
+{
+    if ((r->own >= 1 && r->own <= 7) || r->own == 255)
+        return 0;
+    for (int i = 0; i < 4; i++)
+        if (!slot_right(r, &r->slots[i]))
+            return 0;
+    for (int i = 0; i < 4; i++)
+        for (int j = i + 1; j < 4; j++)
+            if (r->slots[i].gathering && r->slots[j].gathering && same_key(r->slots[i].key, r->slots[j].key))
+                return 0;
+    return 1;
+}
+
+static struct answer refused(unsigned number)
+{
+    return (struct answer){REFUSED, 0, number, 0};
+}
+
+static struct answer put(struct receiver *r, uint8_t *memory, unsigned i, struct key key, const uint8_t *p, size_t body, uint32_t before, uint32_t unit, int again)
+{
+    struct slot *s = &r->slots[i];
+    memcpy(memory + i * 1024 + before, p + 4, body);
+    uint32_t held = before + (uint32_t)body;
+    if (p[3] & 0x40) {
+        s->gathering = 0;
+        return (struct answer){DONE, i, held, again};
+    }
+    *s = (struct slot){1, key, (p[3] >> 4) & 3, unit, held};
+    return (struct answer){HELD, i, held, again};
+}
+
+static struct answer give(struct receiver *r, uint8_t *memory, size_t size, const uint8_t *p, size_t n)
+{
+    if (!state_right(r))
+        return refused(1);
+    if (size != 4096)
+        return refused(2);
+    if (n < 5 || n > 68)
+        return refused(3);
+    if ((p[0] & 15) != 1)
+        return refused(15);
+    if (!ours(r, p[1]))
+        return refused(16);
+    if ((p[2] >= 1 && p[2] <= 7) || p[2] == 255)
+        return refused(17);
+    struct key key = {p[1], p[2], (p[3] >> 3) & 1, p[3] & 7};
+    size_t body = n - 4;
+    unsigned i = 0;
+    while (i < 4 && !(r->slots[i].gathering && same_key(r->slots[i].key, key)))
+        i++;
+    if (p[3] & 0x80) {
+        int again = i < 4;
+        if (!again)
+            for (i = 0; i < 4 && r->slots[i].gathering; i++) {
+            }
+        if (i == 4)
+            return refused(18);
+        return put(r, memory, i, key, p, body, 0, (uint32_t)body, again);
+    }
+    if (i == 4)
+        return refused(19);
+    struct slot *s = &r->slots[i];
+    unsigned number = 0;
+    if (((p[3] >> 4) & 3) != ((s->sequence + 1) & 3))
+        number = 20;
+    else if (p[3] & 0x40 ? body > s->unit : body != s->unit)
+        number = 21;
+    else if (s->held + body > 1024)
+        number = 22;
+    if (number) {
+        s->gathering = 0;
+        return refused(number);
+    }
+    return put(r, memory, i, key, p, body, s->held, s->unit, 0);
+}
+
+static struct answer arrive(struct receiver *r, uint8_t *memory, size_t size, const uint8_t *frame, size_t n, uint8_t own, int *found)
+{
+    unsigned number = frame_refusal(frame, n, own);
+    *found = number == 0;
+    if (number)
+        return refused(number);
+    return give(r, memory, size, frame + 4, n - 5);
+}

@@ -1,0 +1,43 @@
+-- The remainder stays a byte, and it is worked out part by part: what comes later starts from what came before.
+-- Assumes nothing.
+use mathlib.Core.Path.{_≡_}
+use mathlib.Core.List.{List, [], _∷_, _++_, foldl-append}
+use Prim.Native.Nat.{ℕ, _+_, _*_, _/_, _%_, _<_}
+use native.Mathlib.Numerals.{add-one}
+use native.Mathlib.Omega.{arith}
+use lib.Bits.{xor-lt}
+use lib.Dec.{lit<}
+use lib.ListN.{length, take, getD}
+use lib.Seq.{take-suc}
+use Rattle.pec.specs.Remainder.{lowTerms, polyStep, eightSteps, byteStep, pecFrom, pecOf}
+
+pub poly-byte : (r : ℕ) → polyStep r < 256
+unfolding polyStep
+poly-byte r = xor-lt 8 (r * 2 % 256) (r / 128 % 2 * lowTerms) (omega arith) (omega arith)
+
+pub byte-byte : (r b : ℕ) → byteStep r b < 256
+unfolding byteStep eightSteps
+byte-byte r b = poly-byte _
+
+from-byte : (r : ℕ) (s : List ℕ) → r < 256 → pecFrom r s < 256
+unfolding pecFrom
+from-byte r [] h = h
+from-byte r (b ∷ s) h = from-byte (byteStep r b) s (byte-byte r b)
+
+-- The PEC is a byte.
+pub pec-byte : (s : List ℕ) → pecOf s < 256
+unfolding pecOf
+pec-byte s = from-byte 0 s (lit< tt)
+
+-- The PEC of a list that goes on.
+pub pec-append : (s t : List ℕ) → pecOf (s ++ t) ≡ pecFrom (pecOf s) t
+unfolding pecOf pecFrom
+pec-append s t = foldl-append byteStep 0 s t
+
+pub pec-last : (s : List ℕ) (b : ℕ) → pecOf (s ++ (b ∷ [])) ≡ byteStep (pecOf s) b
+unfolding pecFrom
+pec-last s b = pec-append s (b ∷ [])
+
+-- One byte more of a list.
+pub pec-next : (s : List ℕ) (i : ℕ) → i < length s → pecOf (take (i + 1) s) ≡ byteStep (pecOf (take i s)) (getD s i 0)
+pec-next s i h = rw (add-one, take-suc s i 0) (pec-last (take i s) (getD s i 0))

@@ -1,0 +1,11 @@
+pub mod Bitwise
+pub mod Checks
+pub mod Determined
+pub mod Fold
+pub mod Sum
+pub mod Table
+pub mod Tests
+pub mod Vectors
+pub mod Window
+pub mod WireBits
+pub mod Xor

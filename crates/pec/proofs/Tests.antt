@@ -1,0 +1,26 @@
+-- What a test that antt computes says: of two tests at once, and of every number below a bound.
+-- Assumes nothing.
+use mathlib.Core.Path.{_≡_}
+use mathlib.Core.Bool.{Bool, true, false, _&&_}
+use mathlib.Core.Logic.{dite}
+use Prim.Native.Nat.{ℕ, zero, suc, _<_}
+use native.Mathlib.Nat.{not-suc-le-zero}
+use native.Mathlib.Decide.{ℕ-discrete}
+use native.Mathlib.Omega.{arith}
+use lib.Dec.{T}
+
+-- Two tests that are passed together are passed each.
+pub both : (a b : Bool) → T (a && b) → T a × T b
+both true b t = (tt, t)
+both false b t = absurd t
+
+-- A test of every number below n.
+abbrev pub below : (ℕ → Bool) → ℕ → Bool
+below f zero = true
+below f (suc n) = f n && below f n
+
+pub passed : (f : ℕ → Bool) (n : ℕ) → T (below f n) → (k : ℕ) → k < n → T (f k)
+passed f zero t k h = absurd (not-suc-le-zero h)
+passed f (suc n) t k h =
+    dite (ℕ-discrete k n) (λ (e : k ≡ n). rw e (both (f n) (below f n) t .0))
+    (λ (e : k ≡ n → ⊥). passed f n (both (f n) (below f n) t .1) k (omega arith))

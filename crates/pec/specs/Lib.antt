@@ -1,0 +1,4 @@
+pub mod Remainder
+pub mod Sum
+pub mod Table
+pub mod Wire

@@ -1,0 +1,35 @@
+-- What a frame is on the wire, what a checked one is, and what a change within eight neighbouring wire bits is.
+-- Document 01, "SMBus frame", and demand 3.
+-- Assumes nothing.
+use mathlib.Core.Path.{_≡_}
+use mathlib.Core.List.{List, [], _∷_, _++_}
+use Prim.Native.Nat.{ℕ, _+_, _/_, _%_, _≤_, _<_}
+use lib.ListN.{length, getD}
+use Rattle.pec.specs.Remainder.{pecOf}
+
+-- A list of bytes, and no larger numbers.
+abbrev pub Bytes : List ℕ → Type 0
+Bytes s = (i : ℕ) → getD s i 0 < 256
+
+-- "highest bit of each byte first"
+unfoldable pub bitsOf : ℕ → List ℕ
+bitsOf b =
+    b / 128 % 2 ∷ b / 64 % 2 ∷ b / 32 % 2 ∷ b / 16 % 2 ∷ b / 8 % 2 ∷ b / 4 % 2 ∷ b / 2 % 2 ∷ b % 2 ∷ []
+
+-- The bits of all bytes in wire order, across the bytes' borders.
+unfoldable pub wire : List ℕ → List ℕ
+wire [] = []
+wire (b ∷ s) = bitsOf b ++ wire s
+
+-- "Then the packet, then the PEC." The last byte is the PEC of all bytes before it.
+pub record Checked (s : List ℕ) : Type 0 where
+  pub rest : List ℕ
+  pub ends : s ≡ rest ++ (pecOf rest ∷ [])
+
+-- "one or more bits changed, all within eight neighbouring bits in wire order": t is s so changed.
+pub record WindowChange (s t : List ℕ) : Type 0 where
+  pub lengths : length s ≡ length t
+  pub from : ℕ
+  pub before : (i : ℕ) → i < from → getD (wire s) i 0 ≡ getD (wire t) i 0
+  pub after : (i : ℕ) → from + 8 ≤ i → getD (wire s) i 0 ≡ getD (wire t) i 0
+  pub differs : s ≡ t → ⊥
