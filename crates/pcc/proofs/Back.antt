@@ -1,0 +1,141 @@
+-- The round trip: a written region read under its id; and a good region for every packet.
+-- Assumes nothing.
+use mathlib.Core.Path.{_≡_, refl}
+use mathlib.Core.Bool.{Bool, true, false}
+use mathlib.Core.List.{List, _++_}
+use Prim.Native.Nat.{ℕ, _+_, _-_, _%_, _^_, _≤_, _<_}
+use native.Mathlib.Omega.{arith}
+use lib.Dec.{eqb, lit<}
+use lib.ListN.{length, drop, replicate, length-append, length-drop, length-replicate}
+use lib.Seq.{take-append-seam}
+use Rattle.octets.specs.Bytes.{fronted}
+use Rattle.octets.specs.Words.{lowFirst, wordAt, wordBytes}
+use Rattle.octets.proofs.Choice.{within-bounds}
+use Rattle.octets.proofs.Words.{word-back}
+use Rattle.mctp.specs.Packet.{mostRight, packetSize}
+use Rattle.pcc.specs.Region.{signatureOf, flagsOf, lengthOf, command, regionOf, roomFor, regionFor}
+use Rattle.pcc.specs.Reading.{refusalOf, sizeOf, partOf, packetOf, notifyOf, Good}
+use Rattle.pcc.specs.Writing.{writeRefusal, writtenOf, Writable}
+use Rattle.pcc.proofs.Reading.{good-number}
+use Rattle.pcc.proofs.Writing.{writable, written-whole}
+
+flags-below : (b : Bool) → flagsOf b < 2 ^ 32
+flags-below true = lit< tt
+flags-below false = lit< tt
+
+flags-bit : (b : Bool) → eqb (flagsOf b % 2) 1 ≡ b
+flags-bit true = refl
+flags-bit false = refl
+
+-- a list that starts with a front
+module _ (id : ℕ) (notify : Bool) (packet rest : List ℕ) where
+  front-length : length (regionOf id notify packet ++ rest) ≡ 16 + length packet + length rest
+  unfolding regionOf wordBytes
+  front-length = simp length-append (omega arith)
+
+  word-0 : id ≤ 255 → wordAt lowFirst (regionOf id notify packet ++ rest) 0 ≡ signatureOf id
+  unfolding regionOf wordBytes wordAt
+  word-0 h = word-back lowFirst (signatureOf id) rest (omega arith)
+
+  word-4 : wordAt lowFirst (regionOf id notify packet ++ rest) 4 ≡ flagsOf notify
+  unfolding regionOf wordBytes wordAt
+  word-4 = word-back lowFirst (flagsOf notify) rest (flags-below notify)
+
+  word-8 : length packet ≤ 250 → wordAt lowFirst (regionOf id notify packet ++ rest) 8 ≡ lengthOf (length packet)
+  unfolding regionOf wordBytes wordAt
+  word-8 h = word-back lowFirst (lengthOf (length packet)) rest (omega arith)
+
+  word-12 : wordAt lowFirst (regionOf id notify packet ++ rest) 12 ≡ command
+  unfolding regionOf wordBytes wordAt
+  word-12 = refl
+
+  part-16 : partOf (regionOf id notify packet ++ rest) (length packet) ≡ packet
+  unfolding regionOf wordBytes
+  part-16 = take-append-seam packet rest
+
+  module _ (most : ℕ) (w : Writable most (16 + length packet + length rest) id (length packet)) where
+    limits : (64 ≤ most) × (most ≤ 246)
+    limits = within-bounds 64 246 most (w .body)
+
+    pub front-good : Good most (regionOf id notify packet ++ rest) id
+    front-good =
+        let l = limits in
+        let all = front-length in
+        let eight = word-8 (omega arith) in
+        record {
+          body = w .body;
+          subspace = w .subspace;
+          room = omega arith;
+          signed = word-0 (w .subspace);
+          commanded = word-12;
+          least = omega arith;
+          greatest = omega arith;
+          held = omega arith;
+        }
+
+    pub front-number : refusalOf most (regionOf id notify packet ++ rest) id ≡ 0
+    front-number = good-number most (regionOf id notify packet ++ rest) id front-good
+
+    pub front-packet : packetOf most (regionOf id notify packet ++ rest) id ≡ packet
+    unfolding packetOf sizeOf
+    front-packet =
+        let l = limits in
+        let size : lengthOf (length packet) - 4 ≡ length packet = omega arith in
+        rw (front-number, word-8 (omega arith), size) part-16
+
+    pub front-notify : notifyOf most (regionOf id notify packet ++ rest) id ≡ notify
+    unfolding notifyOf
+    front-notify = rw (front-number, word-4) (flags-bit notify)
+
+-- what is written reads back the same, under the same id
+module _ (most : ℕ) (region : List ℕ) (id : ℕ) (notify : Bool) (packet : List ℕ) (allowed : writeRefusal most (length region) id (length packet) ≡ 0) where
+  rest : List ℕ
+  rest = drop (length (regionOf id notify packet)) region
+
+  whole : writtenOf most region id notify packet ≡ regionOf id notify packet ++ rest
+  unfolding fronted rest
+  whole = written-whole region packet id notify most allowed
+
+  room : Writable most (16 + length packet + length rest) id (length packet)
+  unfolding regionOf wordBytes rest
+  room =
+      let w = writable most (length region) id (length packet) allowed in
+      record { body = w .body; subspace = w .subspace; least = w .least; greatest = w .greatest; held = simp length-drop (omega arith) }
+
+  pub back-number : refusalOf most (writtenOf most region id notify packet) id ≡ 0
+  back-number = rw whole (front-number id notify packet rest most room)
+
+  pub back-packet : packetOf most (writtenOf most region id notify packet) id ≡ packet
+  back-packet = rw whole (front-packet id notify packet rest most room)
+
+  pub back-notify : notifyOf most (writtenOf most region id notify packet) id ≡ notify
+  back-notify = rw whole (front-notify id notify packet rest most room)
+
+-- "Every packet of 5 to 68 bytes has a good arrival on each path", here of the least region that holds it
+module _ (most id : ℕ) (notify : Bool) (packet : List ℕ) (body : mostRight most ≡ true) (subspace : id ≤ 255) (sized : packetSize most (length packet) ≡ true) where
+  zeros : List ℕ
+  zeros = replicate (84 - (16 + length packet)) 0
+
+  fitting : Writable most (16 + length packet + length zeros) id (length packet)
+  unfolding zeros
+  fitting =
+      let bounds = within-bounds 5 (4 + most) (length packet) sized in
+      record { body = body; subspace = subspace; least = bounds .0; greatest = bounds .1; held = simp length-replicate (omega arith) }
+
+  pub every-length : length (regionFor id notify packet) ≡ roomFor (length packet)
+  unfolding regionFor
+  every-length =
+      let all = front-length id notify packet (replicate (84 - (16 + length packet)) 0) in
+      omega (arith, simp length-replicate at all)
+
+  pub every-number : refusalOf most (regionFor id notify packet) id ≡ 0
+  unfolding regionFor zeros
+  every-number = front-number id notify packet zeros most fitting
+
+  pub every-packet : packetOf most (regionFor id notify packet) id ≡ packet
+  unfolding regionFor zeros
+  every-packet = front-packet id notify packet zeros most fitting
+
+  pub every-notify : notifyOf most (regionFor id notify packet) id ≡ notify
+  unfolding regionFor zeros
+  every-notify = front-notify id notify packet zeros most fitting

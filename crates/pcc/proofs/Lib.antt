@@ -1,0 +1,9 @@
+pub mod Reading
+pub mod Reasons
+pub mod Answers
+pub mod Writing
+pub mod Back
+pub mod Ignored
+pub mod Determined
+pub mod Literal
+pub mod Bytes

@@ -1,0 +1,49 @@
+-- The literal region written and read, by computation.
+-- Assumes nothing.
+use mathlib.Core.Path.{_≡_, refl}
+use mathlib.Core.Bool.{true}
+use lib.ListN.{replicate, take}
+use Rattle.octets.specs.Bytes.{laid, fronted}
+use Rattle.octets.specs.Words.{wordAt, wordBytes}
+use Rattle.pcc.specs.Region.{regionOf}
+use Rattle.pcc.specs.Reading.{refusalOf, sizeOf, packetOf, notifyOf}
+use Rattle.pcc.specs.Writing.{writeRefusal, writtenOf}
+use Rattle.pcc.specs.Literal.{literalPacket, literalRegion, lengthened}
+
+pub literal-number : refusalOf 64 literalRegion 3 ≡ 0
+unfolding refusalOf wordAt literalRegion
+literal-number = refl
+
+pub literal-packet : packetOf 64 literalRegion 3 ≡ literalPacket
+unfolding packetOf sizeOf refusalOf wordAt literalRegion
+literal-packet = refl
+
+pub literal-notify : notifyOf 64 literalRegion 3 ≡ true
+unfolding notifyOf refusalOf wordAt literalRegion
+literal-notify = refl
+
+pub literal-written : writtenOf 64 (replicate 84 0xFF) 3 true literalPacket ≡ literalRegion
+unfolding writtenOf writeRefusal fronted regionOf wordBytes literalRegion
+literal-written = refl
+
+-- "lengths 8, 9, 72, 73 in PCC"
+pub length-8 : refusalOf 64 (lengthened 8) 3 ≡ 3
+unfolding laid refusalOf wordAt wordBytes literalRegion lengthened
+length-8 = refl
+
+pub length-9 : refusalOf 64 (lengthened 9) 3 ≡ 0
+unfolding laid refusalOf wordAt wordBytes literalRegion lengthened
+length-9 = refl
+
+pub length-72 : refusalOf 64 (lengthened 72) 3 ≡ 0
+unfolding laid refusalOf wordAt wordBytes literalRegion lengthened
+length-72 = refl
+
+pub length-73 : refusalOf 64 (lengthened 73) 3 ≡ 3
+unfolding laid refusalOf wordAt wordBytes literalRegion lengthened
+length-73 = refl
+
+-- "region under 84"
+pub region-83 : refusalOf 64 (take 83 literalRegion) 3 ≡ 2
+unfolding refusalOf literalRegion
+region-83 = refl

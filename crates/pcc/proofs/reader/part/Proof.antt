@@ -1,0 +1,77 @@
+-- `pcc::reader::part` meets its contract: what lies past the region's end is not there to take.
+-- Assumes nothing.
+use mathlib.Core.Path.{_≡_, sym, _∙_}
+use mathlib.Core.List.{List, []}
+use Prim.Native.Nat.{ℕ, _≤_, _-_, _+_}
+use native.Mathlib.Omega.{arith}
+use lib.ListN.{length, take, drop, length-drop, drop-of-length-le}
+use lib.Seq.{take-all, take-nil}
+use borrow.Author.Needs.{needs}
+use Rattle.pcc.proofs.reader.part.Statement.{statement}
+use Rattle.pcc.proofs.reader.part.Tie as tie
+
+module _ (l : List ℕ) (n : ℕ) where
+  none : length l ≤ 16 → [] ≡ take n (drop 16 l)
+  none h = rw (drop-of-length-le l h) (sym (take-nil n))
+
+  whole : take (16 + n - 16) (drop 16 l) ≡ take n (drop 16 l)
+  whole = let e : 16 + n - 16 ≡ n = omega arith in rw e
+
+  cut : length l - 16 ≤ n → take (length l - 16) (drop 16 l) ≡ take n (drop 16 l)
+  cut h =
+      let all : length (drop 16 l) ≤ length l - 16 = simp length-drop (omega arith) in
+      let more : length (drop 16 l) ≤ n = simp length-drop (omega arith) in
+      take-all (length l - 16) (drop 16 l) all ∙ sym (take-all n (drop 16 l) more)
+
+sub-result : tie.Need-sub-result
+sub-result c = search needs
+
+part-result-start : tie.Need-part-result-start
+part-result-start c = search needs
+
+part-result-end : tie.Need-part-result-end
+part-result-end c = search needs
+
+returns : tie.Need-returns
+returns c = none (c .before .before .args .region .now) (c .before .before .args .size) (omega arith)
+
+add-result : tie.Need-add-result
+add-result c = search needs
+
+sub-result-2 : tie.Need-sub-result-2
+sub-result-2 c = search needs
+
+part-result-start-2 : tie.Need-part-result-start-2
+part-result-start-2 c = search needs
+
+part-result-end-2 : tie.Need-part-result-end-2
+part-result-end-2 c = search needs
+
+returns-2 : tie.Need-returns-2
+returns-2 c = whole (c .before .before .before .args .region .now) (c .before .before .before .args .size)
+
+part-result-start-3 : tie.Need-part-result-start-3
+part-result-start-3 c = search needs
+
+part-result-end-3 : tie.Need-part-result-end-3
+part-result-end-3 c = search needs
+
+returns-3 : tie.Need-returns-3
+returns-3 c = cut (c .before .before .before .args .region .now) (c .before .before .before .args .size) (omega arith)
+
+pub part-spec : {M : Type 1} → statement M
+part-spec =
+    tie.close
+    (tie.spec
+    sub-result
+    part-result-start
+    part-result-end
+    returns
+    add-result
+    sub-result-2
+    part-result-start-2
+    part-result-end-2
+    returns-2
+    part-result-start-3
+    part-result-end-3
+    returns-3)

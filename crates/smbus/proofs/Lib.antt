@@ -1,0 +1,11 @@
+pub mod Answering
+pub mod Determined
+pub mod Framing
+pub mod Literal
+pub mod Made
+pub mod Octets
+pub mod Placing
+pub mod Refusing
+pub mod RoundTrip
+pub mod Window
+pub mod Within

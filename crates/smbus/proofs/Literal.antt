@@ -1,0 +1,55 @@
+-- The good frame of document 01, "Numbers to check", read and written by computation.
+-- Assumes nothing.
+use mathlib.Core.Path.{_≡_, refl, ap, _∙_}
+use mathlib.Core.List.{List, [], _∷_, _++_}
+use Prim.Native.Nat.{ℕ, _≤_}
+use native.Mathlib.Omega.{arith}
+use lib.ListN.{length, drop}
+use Rattle.octets.specs.Bytes.{fronted}
+use Rattle.pec.specs.Remainder.{polyStep, eightSteps, byteStep, pecFrom, pecOf}
+use Rattle.smbus.specs.Frame.{headOf, coveredOf, frameOf}
+use Rattle.smbus.specs.Reading.{endOf, beforeEnd, refusalOf, partOf, packetOf, sourceAddressOf}
+use Rattle.smbus.specs.Writing.{writeRefusal, outputOf}
+use Rattle.smbus.specs.Answers.{writtenOf}
+use Rattle.smbus.proofs.Placing.{written-all, output-written}
+
+-- `40 0F 06 23 01 09 0A C8 00 71`
+abbrev pub literalFrame : List ℕ
+literalFrame = 64 ∷ 15 ∷ 6 ∷ 35 ∷ 1 ∷ 9 ∷ 10 ∷ 200 ∷ 0 ∷ 113 ∷ []
+
+-- `01 09 0A C8 00`
+abbrev pub literalPacket : List ℕ
+literalPacket = 1 ∷ 9 ∷ 10 ∷ 200 ∷ 0 ∷ []
+
+-- "is a good frame for address 0x20"
+pub literal-good : refusalOf 64 literalFrame 32 ≡ 0
+unfolding refusalOf endOf beforeEnd pecOf pecFrom byteStep eightSteps polyStep
+literal-good = refl
+
+pub literal-packet : packetOf 64 literalFrame 32 ≡ literalPacket
+unfolding packetOf partOf refusalOf endOf beforeEnd pecOf pecFrom byteStep eightSteps polyStep
+literal-packet = refl
+
+-- 0x11
+pub literal-source : sourceAddressOf 64 literalFrame 32 ≡ 17
+unfolding sourceAddressOf refusalOf endOf beforeEnd pecOf pecFrom byteStep eightSteps polyStep
+literal-source = refl
+
+-- written from 0x11 to 0x20 it is that frame
+pub literal-frame : frameOf 32 17 literalPacket ≡ literalFrame
+unfolding frameOf coveredOf headOf pecOf pecFrom byteStep eightSteps polyStep
+literal-frame = refl
+
+pub literal-answer : (room : ℕ) → 10 ≤ room → writtenOf 64 room 5 32 17 ≡ record { number = 0; size = 10 }
+unfolding writtenOf
+literal-answer room h =
+    let number : writeRefusal 64 room 5 32 17 ≡ 0 =
+    written-all 64 room 5 32 17 (omega arith) (omega arith) (omega arith) (omega arith) (omega arith) (omega arith) h in
+    rw number
+
+pub literal-output : (out : List ℕ) → 10 ≤ length out → outputOf 64 out literalPacket 32 17 ≡ literalFrame ++ drop 10 out
+unfolding fronted
+literal-output out h =
+    output-written 64 out literalPacket 32 17
+    (written-all 64 (length out) 5 32 17 (omega arith) (omega arith) (omega arith) (omega arith) (omega arith) (omega arith) h)
+    ∙ ap (fronted out) literal-frame

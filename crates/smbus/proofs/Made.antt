@@ -1,0 +1,55 @@
+-- What is good is what the layout makes: a good frame is the frame of its own packet, and that packet has a packet's size.
+-- Assumes nothing.
+use mathlib.Core.Path.{_≡_, refl, sym, ap, _∙_}
+use mathlib.Core.List.{List, [], _∷_, _++_}
+use Prim.Native.Nat.{ℕ, suc, _+_, _-_, _*_, _/_, _≤_}
+use native.Mathlib.Omega.{arith}
+use lib.ListN.{length, getD, take, length-take, length-drop}
+use lib.Seq.{take-add, take-suc, take-all}
+use Rattle.pec.specs.Remainder.{pecOf}
+use Rattle.smbus.specs.Frame.{headOf, coveredOf, frameOf}
+use Rattle.smbus.specs.Reading.{endOf, beforeEnd, partOf, Good}
+
+four : (s : List ℕ) → 4 ≤ length s → take 4 s ≡ getD s 0 0 ∷ getD s 1 0 ∷ getD s 2 0 ∷ getD s 3 0 ∷ []
+four [] h = absurd (omega arith)
+four (a ∷ []) h = absurd (omega arith)
+four (a ∷ b ∷ []) h = absurd (omega arith)
+four (a ∷ b ∷ c ∷ []) h = absurd (omega arith)
+four (a ∷ b ∷ c ∷ d ∷ s) h = refl
+
+-- What a good frame gives.
+module _ (most : ℕ) (frame : List ℕ) (own : ℕ) (g : Good most frame own) where
+  abbrev sender : ℕ
+  sender = getD frame 3 0 / 2
+
+  pub part-length : 5 + length (partOf frame) ≡ length frame
+  unfolding partOf
+  part-length = simp (length-take, length-drop) (omega (arith, g .sized .short))
+
+  -- a packet of a packet's size,
+  pub part-short : 5 ≤ length (partOf frame)
+  part-short = omega (arith, part-length, g .sized .short)
+
+  pub part-long : length (partOf frame) ≤ 4 + most
+  part-long = omega (arith, part-length, g .sized .long)
+
+  covered : beforeEnd frame ≡ coveredOf own sender (partOf frame)
+  unfolding beforeEnd partOf coveredOf headOf
+  covered =
+      let n : length frame - 1 ≡ 4 + (length frame - 5) = omega (arith, g .sized .short) in
+      let destination : getD frame 0 0 ≡ own * 2 = omega (arith, g .bit, g .ours) in
+      let command : getD frame 1 0 ≡ 15 = g .command in
+      let count : getD frame 2 0 ≡ 1 + length (partOf frame) = omega (arith, g .count, part-length) in
+      let source : getD frame 3 0 ≡ sender * 2 + 1 = omega (arith, g .sender) in
+      ap (λ (k : ℕ). take k frame) n
+      ∙ take-add 4 (length frame - 5) frame
+      ∙ ap (λ (l : List ℕ). l ++ partOf frame) (four frame (omega (arith, g .sized .short)) ∙ (λ i. destination i ∷ command i ∷ count i ∷ source i ∷ []))
+
+  -- and it is the frame of that packet, to `own` from its sender
+  pub good-frame : frame ≡ frameOf own sender (partOf frame)
+  unfolding frameOf endOf beforeEnd
+  good-frame =
+      sym (take-all (suc (length frame - 1)) frame (omega arith))
+      ∙ take-suc frame (length frame - 1) 0 (omega (arith, g .sized .short))
+      ∙ ap (λ (b : ℕ). beforeEnd frame ++ (b ∷ [])) (g .checked)
+      ∙ ap (λ (l : List ℕ). l ++ (pecOf l ∷ [])) covered

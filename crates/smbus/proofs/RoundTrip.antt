@@ -1,0 +1,86 @@
+-- What is written reads back: every packet has a good frame, and a frame gives the packet, the sender and the number 0 at its destination.
+-- Assumes nothing.
+use mathlib.Core.Path.{_≡_, ap, _∙_}
+use mathlib.Core.List.{List, [], _∷_}
+use Prim.Native.Nat.{ℕ, _+_, _-_, _/_, _≤_}
+use native.Mathlib.Omega.{arith}
+use lib.ListN.{length, getD, take}
+use lib.Seq.{take-at}
+use Rattle.octets.specs.Bytes.{fronted}
+use Rattle.pec.specs.Remainder.{pecOf}
+use Rattle.pec.proofs.Checks.{checked-made, checked-last}
+use Rattle.smbus.specs.Frame.{headOf, coveredOf, frameOf}
+use Rattle.smbus.specs.Reading.{endOf, beforeEnd, refusalOf, partOf, packetOf, sourceAddressOf, Good}
+use Rattle.smbus.specs.Writing.{frameSize, outputOf, Fits}
+use Rattle.smbus.proofs.Framing.{frame-length}
+use Rattle.smbus.proofs.Refusing.{of-good}
+use Rattle.smbus.proofs.Answering.{good-packet, good-source}
+use Rattle.smbus.proofs.Placing.{of-fits, output-written}
+
+module _ (most destination source : ℕ) (packet : List ℕ) where
+  abbrev frame : List ℕ
+  frame = frameOf destination source packet
+
+  part-frame : partOf frame ≡ packet
+  unfolding partOf frameOf coveredOf headOf
+  part-frame =
+      let end = pecOf (coveredOf destination source packet) ∷ [] in
+      take-at packet end (length frame - 5) (omega (arith, frame-length destination source packet))
+
+  source-frame : getD frame 3 0 / 2 ≡ source
+  unfolding frameOf coveredOf headOf
+  source-frame = omega arith
+
+  module _ (least : 64 ≤ most) (largest : most ≤ 246) (to : destination ≤ 127) (short : 5 ≤ length packet) (long : length packet ≤ 4 + most) where
+    -- "Every packet of 5 to 68 bytes has a good arrival": its frame, at its destination.
+    pub frame-good : Good most frame destination
+    unfolding frameOf coveredOf headOf endOf beforeEnd
+    frame-good =
+        let n : length (frameOf destination source packet) ≡ 5 + length packet = frame-length destination source packet in
+        record {
+          sized = record { least = least; largest = largest; address = to; short = omega arith; long = omega arith };
+          bit = omega arith;
+          ours = omega arith;
+          command = omega arith;
+          count = omega arith;
+          sender = omega arith;
+          checked = checked-last frame (checked-made (coveredOf destination source packet));
+        }
+
+    pub frame-number : refusalOf most frame destination ≡ 0
+    frame-number = of-good most frame destination frame-good
+
+    pub frame-packet : packetOf most frame destination ≡ packet
+    frame-packet = good-packet most frame destination frame-number ∙ part-frame
+
+    pub frame-source : sourceAddressOf most frame destination ≡ source
+    frame-source = good-source most frame destination frame-number ∙ source-frame
+
+-- A written frame, taken from the output's front and read at its destination, gives the packet, the sender and the number 0.
+module _ (most : ℕ) (out packet : List ℕ) (destination source : ℕ) (f : Fits most (length out) (length packet) destination source) where
+  abbrev written : List ℕ
+  written = take (frameSize (length packet)) (outputOf most out packet destination source)
+
+  pub written-frame : written ≡ frameOf destination source packet
+  unfolding fronted
+  written-frame =
+      ap (take (5 + length packet)) (output-written most out packet destination source (of-fits most (length out) (length packet) destination source f))
+      ∙ take-at (frameOf destination source packet) _ (5 + length packet) (frame-length destination source packet)
+
+  pub back-number : refusalOf most written destination ≡ 0
+  back-number =
+      ap (λ (s : List ℕ). refusalOf most s destination) written-frame
+      ∙ frame-number most destination source packet (f .least) (f .largest) (f .to) (f .short) (f .long)
+
+  pub back-packet : packetOf most written destination ≡ packet
+  back-packet =
+      ap (λ (s : List ℕ). packetOf most s destination) written-frame
+      ∙ frame-packet most destination source packet (f .least) (f .largest) (f .to) (f .short) (f .long)
+
+  pub back-source : sourceAddressOf most written destination ≡ source
+  back-source =
+      ap (λ (s : List ℕ). sourceAddressOf most s destination) written-frame
+      ∙ frame-source most destination source packet (f .least) (f .largest) (f .to) (f .short) (f .long)
+
+  pub round-trip : (refusalOf most written destination ≡ 0) × (packetOf most written destination ≡ packet) × (sourceAddressOf most written destination ≡ source)
+  round-trip = (back-number, back-packet, back-source)

@@ -1,0 +1,4 @@
+pub mod Frame
+pub mod Reading
+pub mod Writing
+pub mod Answers

@@ -1,0 +1,14 @@
+// The SMBus carrier: the packet found in a lent frame, and a packet written as a frame.
+mod answer;
+mod limits;
+mod reading;
+mod writing;
+
+pub use answer::Carried;
+pub use answer::Written;
+pub use reading::carried;
+pub use reading::packet;
+pub use reading::part;
+pub use reading::refusal;
+pub use reading::source;
+pub use writing::write;

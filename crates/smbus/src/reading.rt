@@ -1,0 +1,112 @@
+// Reading a frame: one pass over it finds the packet or the refusal, and every question asks that pass.
+use crate::answer::Carried;
+use crate::limits::lies_within;
+use mctp::Refusal;
+ghost use mathlib.Core.Path.{_≡_};
+ghost use Prim.Native.Nat.{_<_};
+ghost use Rattle.smbus.specs.Reading.{refusalOf, packetOf, sourceAddressOf, partOf, Sized};
+ghost use Rattle.smbus.specs.Answers.{saysCarried, carriedOf};
+
+// The packet as a part of the lent frame; empty where the frame is refused.
+pub fn packet(frame: &[u8], own: u8) -> &[u8]
+    ensures { λ r. ⌜ now r ≡ packetOf 64 (now (frame .entry)) own ⌝ }
+{
+    let found = carried(frame, own);
+    match found {
+        Carried::Packet { source: _ } => part(frame),
+        Carried::Refused(_) => &frame[0..0],
+    }
+}
+
+// The number of the refusal; 0 where the frame is good.
+pub fn refusal(frame: &[u8], own: u8) -> u8
+    ensures { λ r. ⌜ r ≡ refusalOf 64 (now (frame .entry)) own ⌝ }
+{
+    let found = carried(frame, own);
+    match found {
+        Carried::Packet { source: _ } => 0,
+        Carried::Refused(why) => why.number(),
+    }
+}
+
+// The address of the sender; 0 where the frame is refused.
+pub fn source(frame: &[u8], own: u8) -> u8
+    ensures { λ r. ⌜ r ≡ sourceAddressOf 64 (now (frame .entry)) own ⌝ }
+{
+    let found = carried(frame, own);
+    match found {
+        Carried::Packet { source } => source,
+        Carried::Refused(_) => 0,
+    }
+}
+
+// All that one pass over the frame tells: the work of every question above.
+pub fn carried(frame: &[u8], own: u8) -> Carried
+    ensures { λ r. ⌜ saysCarried r ≡ carriedOf 64 (now (frame .entry)) own ⌝ }
+{
+    carried_within(mctp::LARGEST_BODY, frame, own)
+}
+
+// Where the packet stands in a frame, whether the frame is good or not: for a caller that has asked `carried`.
+pub fn part(frame: &[u8]) -> &[u8]
+    ensures { λ r. ⌜ now r ≡ partOf (now (frame .entry)) ⌝ }
+{
+    if frame.len() < 5 {
+        return &frame[0..0];
+    }
+    let end = frame.len() - 1;
+    &frame[4..end]
+}
+
+// Checks 1 and 3, which need no byte of the frame.
+fn carried_within(most: usize, frame: &[u8], own: u8) -> Carried
+    ensures { λ r. ⌜ saysCarried r ≡ carriedOf most (now (frame .entry)) own ⌝ }
+{
+    if !lies_within(64, 246, most) {
+        return Carried::Refused(Refusal::Setup);
+    }
+    if 127 < own {
+        return Carried::Refused(Refusal::Setup);
+    }
+    if !lies_within(10, 9 + most, frame.len()) {
+        return Carried::Refused(Refusal::Size);
+    }
+    carried_sized(most, frame, own)
+}
+
+// Checks 4 to 8, the PEC last: it is worked out once, and only where all else is right.
+fn carried_sized(most: usize, frame: &[u8], own: u8) -> Carried
+    requires { ⌜ Sized most (now frame) own ⌝ }
+    ensures { λ r. ⌜ saysCarried r ≡ carriedOf most (now (frame .entry)) own ⌝ }
+{
+    let destination = frame[0];
+    let command = frame[1];
+    let count = wide(frame[2]);
+    let sender = frame[3];
+    if destination % 2 != 0 {
+        return Carried::Refused(Refusal::Address);
+    }
+    if destination / 2 != own {
+        return Carried::Refused(Refusal::Address);
+    }
+    if command != 0x0F {
+        return Carried::Refused(Refusal::Command);
+    }
+    if count + 4 != frame.len() {
+        return Carried::Refused(Refusal::Count);
+    }
+    if sender % 2 != 1 {
+        return Carried::Refused(Refusal::SourceBit);
+    }
+    let end = frame.len() - 1;
+    if frame[end] != pec::pec(&frame[0..end]) {
+        return Carried::Refused(Refusal::Pec);
+    }
+    Carried::Packet { source: sender / 2 }
+}
+
+fn wide(b: u8) -> usize
+    ensures { λ r. ⌜ (r ≡ b) × (r < 256) ⌝ }
+{
+    b as usize
+}
