@@ -2,9 +2,9 @@
 -- Assumes nothing.
 use mathlib.Core.Path.{_≡_, refl, sym, _∙_}
 use mathlib.Core.Bool.{Bool, true, false, _&&_, false≢true}
-use Prim.Native.Nat.{ℕ, suc, _≤_}
+use Prim.Native.Nat.{ℕ, suc, _≤_, _<_}
 use native.Mathlib.Nat.{suc-ne-zero}
-use borrow.Author.Tests.{leb-true, le-leb}
+use borrow.Author.Tests.{leb-true, le-leb, lt-leb}
 use lib.Dec.{leb}
 use Rattle.octets.specs.Choice.{pick, within}
 
@@ -30,3 +30,14 @@ within-bounds low high n e =
 
 pub within-holds : (low high n : ℕ) → low ≤ n → n ≤ high → within low high n ≡ true
 within-holds low high n h k = rw (le-leb low n h, le-leb n high k)
+
+-- and one outside them
+pub within-below : (low high n : ℕ) → n < low → within low high n ≡ false
+within-below low high n h = rw (lt-leb low n h)
+
+and-false : (t : Bool) → (t && false) ≡ false
+and-false true = refl
+and-false false = refl
+
+pub within-above : (low high n : ℕ) → high < n → within low high n ≡ false
+within-above low high n h = rw (lt-leb n high h) (and-false (leb low n))

@@ -1,3 +1,4 @@
 pub mod Laid
 pub mod Words
 pub mod Choice
+pub mod Below

@@ -1,38 +1,17 @@
 -- A region for a packet of bytes holds bytes.
 -- Assumes nothing.
 use mathlib.Core.Bool.{Bool}
-use mathlib.Core.List.{List, [], _∷_, _++_}
-use Prim.Native.Nat.{ℕ, zero, suc, _+_, _-_, _<_}
-use native.Mathlib.Omega.{arith}
-use lib.Dec.{lit<}
+use mathlib.Core.List.{List, _++_}
+use Prim.Native.Nat.{ℕ, _+_, _-_}
 use lib.ListN.{length, replicate}
 use Rattle.octets.specs.Bytes.{Below}
 use Rattle.octets.specs.Words.{lowFirst, wordBytes}
+use Rattle.octets.proofs.Below.{below-append, below-word, below-zeros}
 use Rattle.pcc.specs.Region.{signatureOf, flagsOf, lengthOf, command, regionOf, regionFor}
 
--- no entry past the end
-below-nil : Below 256 []
-below-nil i = lit< tt
-
-below-cons : (b : ℕ) (s : List ℕ) → b < 256 → Below 256 s → Below 256 (b ∷ s)
-below-cons b s h k zero = h
-below-cons b s h k (suc i) = k i
-
-below-append : (s t : List ℕ) → Below 256 s → Below 256 t → Below 256 (s ++ t)
-below-append [] t h k = k
-below-append (b ∷ s) t h k = below-cons b (s ++ t) (h 0) (below-append s t (λ i. h (suc i)) k)
-
-below-word : (w : ℕ) (s : List ℕ) → Below 256 s → Below 256 (wordBytes lowFirst w ++ s)
-unfolding wordBytes
-below-word w s h zero = omega arith
-below-word w s h (suc zero) = omega arith
-below-word w s h (suc (suc zero)) = omega arith
-below-word w s h (suc (suc (suc zero))) = omega arith
-below-word w s h (suc (suc (suc (suc i)))) = h i
-
-below-zeros : (n : ℕ) → Below 256 (replicate n 0)
-below-zeros zero = below-nil
-below-zeros (suc n) = below-cons 0 (replicate n 0) (lit< tt) (below-zeros n)
+-- a word, and what stands behind it
+word-before : (w : ℕ) (s : List ℕ) → Below 256 s → Below 256 (wordBytes lowFirst w ++ s)
+word-before w s h = below-append (wordBytes lowFirst w) s (below-word lowFirst w) h
 
 pub front-bytes : (id : ℕ) (notify : Bool) (packet : List ℕ) → Below 256 packet → Below 256 (regionOf id notify packet)
 unfolding regionOf
@@ -40,8 +19,8 @@ front-bytes id notify packet h =
     let from-12 = wordBytes lowFirst command ++ packet in
     let from-8 = wordBytes lowFirst (lengthOf (length packet)) ++ from-12 in
     let from-4 = wordBytes lowFirst (flagsOf notify) ++ from-8 in
-    below-word (signatureOf id) from-4
-    (below-word (flagsOf notify) from-8 (below-word (lengthOf (length packet)) from-12 (below-word command packet h)))
+    word-before (signatureOf id) from-4
+    (word-before (flagsOf notify) from-8 (word-before (lengthOf (length packet)) from-12 (word-before command packet h)))
 
 pub every-bytes : (id : ℕ) (notify : Bool) (packet : List ℕ) → Below 256 packet → Below 256 (regionFor id notify packet)
 unfolding regionFor

@@ -5,11 +5,12 @@ use mathlib.Core.Path.{_≡_}
 use mathlib.Core.List.{List, [], _∷_, _++_}
 use Prim.Native.Nat.{ℕ, _+_, _/_, _%_, _≤_, _<_}
 use lib.ListN.{length, getD}
+use Rattle.octets.specs.Bytes.{Below}
 use Rattle.pec.specs.Remainder.{pecOf}
 
 -- A list of bytes, and no larger numbers.
 abbrev pub Bytes : List ℕ → Type 0
-Bytes s = (i : ℕ) → getD s i 0 < 256
+Bytes s = Below 256 s
 
 -- "highest bit of each byte first"
 unfoldable pub bitsOf : ℕ → List ℕ

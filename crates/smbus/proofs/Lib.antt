@@ -8,4 +8,3 @@ pub mod Placing
 pub mod Refusing
 pub mod RoundTrip
 pub mod Window
-pub mod Within

@@ -17,7 +17,7 @@ use Rattle.mctp.specs.Refusals.{numberOf}
 use Rattle.mctp.proofs.Refusals.{number-positive}
 use Rattle.smbus.specs.declared.answer.Written.{Written}
 use Rattle.smbus.specs.declared.answer.Written.the-variants.{Frame, Refused}
-use Rattle.smbus.proofs.Within.{within-below, within-above}
+use Rattle.octets.proofs.Choice.{within-below, within-above}
 use Rattle.smbus.specs.Frame.{frameOf}
 use Rattle.smbus.specs.Writing.{frameSize, writeRefusal, outputOf, Fits}
 use Rattle.smbus.specs.Answers.{Put, saysWritten, writtenOf}

@@ -11,7 +11,7 @@ use Rattle.octets.specs.Choice.{pick, within}
 use Rattle.octets.proofs.Choice.{passed, within-bounds, within-holds}
 use Rattle.mctp.specs.Packet.{mostRight}
 use Rattle.pec.specs.Remainder.{pecOf}
-use Rattle.smbus.proofs.Within.{within-below, within-above}
+use Rattle.octets.proofs.Choice.{within-below, within-above}
 use Rattle.smbus.specs.Reading.{endOf, beforeEnd, refusalOf, Sized, Good}
 
 module _ (most : ℕ) (frame : List ℕ) (own : ℕ) where
