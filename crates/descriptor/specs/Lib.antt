@@ -1,0 +1,6 @@
+pub mod Places
+pub mod Configuration
+pub mod Descriptor
+pub mod Answers
+pub mod Alike
+pub mod Window

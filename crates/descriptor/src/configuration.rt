@@ -1,0 +1,85 @@
+// A configuration: where the rings and the structures lie, and whether a window of a given size can hold them so.
+use crate::place::Place;
+use crate::place::are_apart;
+use crate::place::lies_in;
+ghost use mathlib.Core.Path.{_≡_};
+ghost use Rattle.descriptor.specs.Configuration.{structureAt, descriptorPlace, partPlace, ringRight, inside, clear, allowed};
+
+// B2H and H2B are the rings from the controller to the host and back; `ros` and `rws` are the offsets of Host_ROS and Host_RWS.
+pub struct Configuration {
+    pub b2h: Place,
+    pub h2b: Place,
+    pub ros: u32,
+    pub rws: u32,
+}
+
+// What lies in the window besides the descriptor.
+pub enum Part {
+    B2h,
+    H2b,
+    Ros,
+    Rws,
+}
+
+fn structure_at(offset: u32) -> Place
+    ensures { λ r. ⌜ r ≡ structureAt offset ⌝ }
+{
+    Place { offset, length: 8 }
+}
+
+fn descriptor() -> Place
+    ensures { λ r. ⌜ r ≡ descriptorPlace ⌝ }
+{
+    Place {
+        offset: 0,
+        length: 64,
+    }
+}
+
+// Where this part lies by the configuration alone.
+pub fn part_place(c: Configuration, which: Part) -> Place
+    ensures { λ r. ⌜ r ≡ partPlace c which ⌝ }
+{
+    match which {
+        Part::B2h => c.b2h,
+        Part::H2b => c.h2b,
+        Part::Ros => structure_at(c.ros),
+        Part::Rws => structure_at(c.rws),
+    }
+}
+
+fn ring_right(ring: Place) -> bool
+    ensures { λ r. ⌜ r ≡ ringRight ring ⌝ }
+{
+    (128 <= ring.length) & (ring.length <= 65536) & (ring.length % 4 == 0)
+}
+
+fn is_inside(window: usize, c: Configuration) -> bool
+    ensures { λ r. ⌜ r ≡ inside window c ⌝ }
+{
+    lies_in(window, descriptor())
+        & lies_in(window, c.b2h)
+        & lies_in(window, c.h2b)
+        & lies_in(window, structure_at(c.ros))
+        & lies_in(window, structure_at(c.rws))
+}
+
+fn is_clear(c: Configuration, ring: Place) -> bool
+    ensures { λ r. ⌜ r ≡ clear c ring ⌝ }
+{
+    are_apart(ring, descriptor())
+        & are_apart(ring, structure_at(c.ros))
+        & are_apart(ring, structure_at(c.rws))
+}
+
+// Whether document 01's list lets this configuration be used in a window of this size.
+pub fn is_allowed(window: usize, c: Configuration) -> bool
+    ensures { λ r. ⌜ r ≡ allowed window c ⌝ }
+{
+    is_inside(window, c)
+        & are_apart(c.b2h, c.h2b)
+        & is_clear(c, c.b2h)
+        & is_clear(c, c.h2b)
+        & ring_right(c.b2h)
+        & ring_right(c.h2b)
+}

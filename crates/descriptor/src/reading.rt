@@ -1,0 +1,83 @@
+// The descriptor at the window's front, read into a checked configuration.
+use crate::configuration::Configuration;
+use crate::configuration::is_allowed;
+use crate::place::Place;
+use mctp::Refusal;
+ghost use mathlib.Core.Path.{_≡_};
+ghost use Rattle.descriptor.specs.Descriptor.{signatureRight, versionRight, typeRight, baseAt, configurationIn, outcomeOf};
+ghost use Rattle.descriptor.specs.Answers.{says};
+
+pub enum Configured {
+    Checked(Configuration),
+    Refused(Refusal),
+}
+
+pub fn read_descriptor(window: &[u8]) -> Configured
+    ensures { λ r. ⌜ says r ≡ outcomeOf (now (window .entry)) ⌝ }
+{
+    if window.len() < 64 {
+        return Configured::Refused(Refusal::Signature);
+    }
+    if !has_signature(window) {
+        return Configured::Refused(Refusal::Signature);
+    }
+    if !has_version(window) {
+        return Configured::Refused(Refusal::Descriptor);
+    }
+    if !has_type(window) {
+        return Configured::Refused(Refusal::Descriptor);
+    }
+    let c = configuration_in(window);
+    if !is_allowed(window.len(), c) {
+        return Configured::Refused(Refusal::Descriptor);
+    }
+    Configured::Checked(c)
+}
+
+// The letters #MMBI$.
+fn has_signature(window: &[u8]) -> bool
+    ensures { λ r. ⌜ r ≡ signatureRight (now (window .entry)) ⌝ }
+{
+    (octets::byte_at(window, 0) == 0x23)
+        & (octets::byte_at(window, 1) == 0x4D)
+        & (octets::byte_at(window, 2) == 0x4D)
+        & (octets::byte_at(window, 3) == 0x42)
+        & (octets::byte_at(window, 4) == 0x49)
+        & (octets::byte_at(window, 5) == 0x24)
+}
+
+fn has_version(window: &[u8]) -> bool
+    ensures { λ r. ⌜ r ≡ versionRight (now (window .entry)) ⌝ }
+{
+    octets::byte_at(window, 6) % 16 == 1
+}
+
+fn has_type(window: &[u8]) -> bool
+    ensures { λ r. ⌜ r ≡ typeRight (now (window .entry)) ⌝ }
+{
+    octets::byte_at(window, 24) % 16 == 1
+}
+
+// A base address in bytes: bits 28..0 of its word, in units of 8 bytes.
+fn base_at(window: &[u8], at: usize) -> u32
+    ensures { λ r. ⌜ r ≡ baseAt (now (window .entry)) at ⌝ }
+{
+    octets::word_high_first(window, at) % 536870912 * 8
+}
+
+fn configuration_in(window: &[u8]) -> Configuration
+    ensures { λ r. ⌜ r ≡ configurationIn (now (window .entry)) ⌝ }
+{
+    Configuration {
+        b2h: Place {
+            offset: base_at(window, 8),
+            length: octets::word_high_first(window, 16),
+        },
+        h2b: Place {
+            offset: base_at(window, 12),
+            length: octets::word_high_first(window, 20),
+        },
+        ros: base_at(window, 32),
+        rws: base_at(window, 36),
+    }
+}

@@ -1,0 +1,105 @@
+-- The interface's states: all sixteen rows of Table 5, which of them are transient, and which let a ring be used.
+-- Assumes nothing.
+use mathlib.Core.Path.{_≡_, refl}
+use mathlib.Core.Bool.{Bool, true, false}
+use mathlib.Core.List.{List, [], _∷_, map}
+use Rattle.octets.specs.Choice.{pick}
+use Rattle.octets.proofs.Choice.{determined}
+use Rattle.mmbi.specs.declared.interface.Flags.{Flags}
+use Rattle.mmbi.specs.declared.interface.InterfaceState.{InterfaceState}
+use Rattle.mmbi.specs.declared.interface.InterfaceState.the-variants.{InitializationInProgress, InitializationCompleted, NormalRuntime, ResetRequestByController, ResetRequestByHost, ResetAcked, TransitioningToInitialization, TemporaryTransition, InitializationMismatch, Unexpected}
+use Rattle.mmbi.specs.Interface.{row, flagsOf, sixteen, stateOf, isTransient, mayRead, mayWrite}
+
+-- Table 5 by the controller's flags and then the host's, as the code has it
+abbrev byEnds : Bool → Bool → Bool → Bool → InterfaceState
+byEnds bUp bRst hUp hRst =
+    pick bUp
+    (pick bRst
+    (pick hUp (pick hRst ResetAcked ResetRequestByController) (pick hRst Unexpected Unexpected))
+    (pick hUp (pick hRst ResetRequestByHost NormalRuntime) (pick hRst InitializationMismatch InitializationCompleted)))
+    (pick bRst
+    (pick hUp (pick hRst TransitioningToInitialization TemporaryTransition) (pick hRst TemporaryTransition TemporaryTransition))
+    (pick hUp (pick hRst Unexpected Unexpected) (pick hRst TemporaryTransition InitializationInProgress)))
+
+pub by-ends : (bUp bRst hUp hRst : Bool) → byEnds bUp bRst hUp hRst ≡ row bUp bRst hUp hRst
+by-ends true true true true = refl
+by-ends true true true false = refl
+by-ends true true false true = refl
+by-ends true true false false = refl
+by-ends true false true true = refl
+by-ends true false true false = refl
+by-ends true false false true = refl
+by-ends true false false false = refl
+by-ends false true true true = refl
+by-ends false true true false = refl
+by-ends false true false true = refl
+by-ends false true false false = refl
+by-ends false false true true = refl
+by-ends false false true false = refl
+by-ends false false false true = refl
+by-ends false false false false = refl
+
+-- every row of Table 5
+pub all-states :
+    map stateOf sixteen
+    ≡ InitializationInProgress
+    ∷ TemporaryTransition
+    ∷ Unexpected
+    ∷ Unexpected
+    ∷ TemporaryTransition
+    ∷ TemporaryTransition
+    ∷ TemporaryTransition
+    ∷ TransitioningToInitialization
+    ∷ InitializationCompleted
+    ∷ InitializationMismatch
+    ∷ NormalRuntime
+    ∷ ResetRequestByHost
+    ∷ Unexpected
+    ∷ Unexpected
+    ∷ ResetRequestByController
+    ∷ ResetAcked
+    ∷ []
+unfolding stateOf
+all-states = refl
+
+-- "1000 .. 1010 .. 1011 .. 1110 .. 1111 .. the rest transient": eleven of them
+pub all-transient :
+    map (λ (f : Flags). isTransient (stateOf f)) sixteen
+    ≡ true ∷ true ∷ true ∷ true ∷ true ∷ true ∷ true ∷ true ∷ false ∷ true ∷ false ∷ false ∷ true ∷ true ∷ false ∷ false ∷ []
+unfolding stateOf
+all-transient = refl
+
+-- "Ring reading and writing happen only in normal runtime.": in one flag state of the sixteen
+abbrev onlyRunning : List Bool
+onlyRunning = false ∷ false ∷ false ∷ false ∷ false ∷ false ∷ false ∷ false ∷ false ∷ false ∷ true ∷ false ∷ false ∷ false ∷ false ∷ false ∷ []
+
+pub all-may-read : map (λ (f : Flags). mayRead (stateOf f)) sixteen ≡ onlyRunning
+unfolding stateOf
+all-may-read = refl
+
+pub all-may-write : map (λ (f : Flags). mayWrite (stateOf f)) sixteen ≡ onlyRunning
+unfolding stateOf
+all-may-write = refl
+
+-- "flag state 0000 is transient"
+pub flags-0000 : isTransient (stateOf (flagsOf false false false false)) ≡ true
+unfolding stateOf
+flags-0000 = refl
+
+-- "1010 is normal runtime"
+pub flags-1010 : stateOf (flagsOf true false true false) ≡ NormalRuntime
+unfolding stateOf
+flags-1010 = refl
+
+-- Two results that a contract allows are equal.
+pub state-determined : (f : Flags) {r s : InterfaceState} → r ≡ stateOf f → s ≡ stateOf f → r ≡ s
+state-determined f = determined
+
+pub transient-determined : (s : InterfaceState) {a b : Bool} → a ≡ isTransient s → b ≡ isTransient s → a ≡ b
+transient-determined s = determined
+
+pub may-read-determined : (s : InterfaceState) {a b : Bool} → a ≡ mayRead s → b ≡ mayRead s → a ≡ b
+may-read-determined s = determined
+
+pub may-write-determined : (s : InterfaceState) {a b : Bool} → a ≡ mayWrite s → b ≡ mayWrite s → a ≡ b
+may-write-determined s = determined

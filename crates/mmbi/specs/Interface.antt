@@ -1,0 +1,89 @@
+-- The state of the interface (003, Table 5; document 01, "MMBI descriptor, state and ring").
+-- Assumes nothing.
+use mathlib.Core.Bool.{Bool, true, false}
+use mathlib.Core.List.{List, [], _∷_}
+use Rattle.mmbi.specs.declared.interface.Flags.{Flags}
+use Rattle.mmbi.specs.declared.interface.InterfaceState.{InterfaceState}
+use Rattle.mmbi.specs.declared.interface.InterfaceState.the-variants.{InitializationInProgress, InitializationCompleted, NormalRuntime, ResetRequestByController, ResetRequestByHost, ResetAcked, TransitioningToInitialization, TemporaryTransition, InitializationMismatch, Unexpected}
+
+-- Table 5, its columns "B_UP B_RST H_UP H_RST", its rows in the order that it gives them
+abbrev pub row : Bool → Bool → Bool → Bool → InterfaceState
+row false false false false = InitializationInProgress
+row true false false false = InitializationCompleted
+row true false true false = NormalRuntime
+row true true true false = ResetRequestByController
+row true false true true = ResetRequestByHost
+row true true true true = ResetAcked
+row false true true true = TransitioningToInitialization
+row false true true false = TemporaryTransition
+row false true false true = TemporaryTransition
+row false true false false = TemporaryTransition
+row false false false true = TemporaryTransition
+row true false false true = InitializationMismatch
+row true true false true = Unexpected
+row true true false false = Unexpected
+row false false true false = Unexpected
+row false false true true = Unexpected
+
+-- the flags as a number's digits are read: B_UP, B_RST, H_UP, H_RST
+abbrev pub flagsOf : Bool → Bool → Bool → Bool → Flags
+flagsOf bUp bRst hUp hRst = record { «controller_up» = bUp; «controller_reset» = bRst; «host_up» = hUp; «host_reset» = hRst }
+
+-- the sixteen flag states, from 0000 to 1111
+abbrev pub sixteen : List Flags
+sixteen =
+    flagsOf false false false false
+    ∷ flagsOf false false false true
+    ∷ flagsOf false false true false
+    ∷ flagsOf false false true true
+    ∷ flagsOf false true false false
+    ∷ flagsOf false true false true
+    ∷ flagsOf false true true false
+    ∷ flagsOf false true true true
+    ∷ flagsOf true false false false
+    ∷ flagsOf true false false true
+    ∷ flagsOf true false true false
+    ∷ flagsOf true false true true
+    ∷ flagsOf true true false false
+    ∷ flagsOf true true false true
+    ∷ flagsOf true true true false
+    ∷ flagsOf true true true true
+    ∷ []
+
+-- "State from the four flags (B_UP, B_RST, H_UP, H_RST)"
+unfoldable pub stateOf : Flags → InterfaceState
+stateOf f = row (f .«controller_up») (f .«controller_reset») (f .«host_up») (f .«host_reset»)
+
+-- "1000 initialization completed; 1010 normal runtime; 1011 reset asked by host; 1110 reset asked by controller; 1111 reset acknowledged;
+-- the rest transient."
+abbrev pub isTransient : InterfaceState → Bool
+isTransient InitializationInProgress = true
+isTransient InitializationCompleted = false
+isTransient NormalRuntime = false
+isTransient ResetRequestByController = false
+isTransient ResetRequestByHost = false
+isTransient ResetAcked = false
+isTransient TransitioningToInitialization = true
+isTransient TemporaryTransition = true
+isTransient InitializationMismatch = true
+isTransient Unexpected = true
+
+abbrev pub isNormalRuntime : InterfaceState → Bool
+isNormalRuntime InitializationInProgress = false
+isNormalRuntime InitializationCompleted = false
+isNormalRuntime NormalRuntime = true
+isNormalRuntime ResetRequestByController = false
+isNormalRuntime ResetRequestByHost = false
+isNormalRuntime ResetAcked = false
+isNormalRuntime TransitioningToInitialization = false
+isNormalRuntime TemporaryTransition = false
+isNormalRuntime InitializationMismatch = false
+isNormalRuntime Unexpected = false
+
+-- "Ring reading and writing happen only in normal runtime.": reading
+abbrev pub mayRead : InterfaceState → Bool
+mayRead s = isNormalRuntime s
+
+-- and writing
+abbrev pub mayWrite : InterfaceState → Bool
+mayWrite s = isNormalRuntime s

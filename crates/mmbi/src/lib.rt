@@ -1,0 +1,11 @@
+// The MMBI interface (003): its state from four flags, and the words that hold pointers and flags.
+mod interface;
+mod word;
+
+pub use interface::Flags;
+pub use interface::InterfaceState;
+pub use interface::may_read;
+pub use interface::may_write;
+pub use interface::state;
+pub use interface::transient;
+pub use word::Word;
