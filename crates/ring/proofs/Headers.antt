@@ -1,0 +1,91 @@
+-- Headers: one stands in one run wherever a pointer may point, says what it was written for, and written bytes read back.
+-- Assumes nothing.
+use mathlib.Core.Path.{_≡_, refl, ap, sym, _∙_}
+use mathlib.Core.List.{List, _++_, append-assoc}
+use Prim.Native.Nat.{ℕ, _+_, _-_, _*_, _/_, _%_, _^_, _≤_, _<_}
+use native.Mathlib.Nat.{add-zero, zero-add}
+use native.Mathlib.Omega.{arith}
+use lib.Dec.{lit<}
+use lib.ListN.{length, getD, take, drop, replicate, length-append, length-drop, length-replicate, List·getD-append}
+use lib.Seq.{getD-drop, take-at, drop-at}
+use Rattle.octets.specs.Words.{Order, lowFirst, highFirst, wordAt, wordBytes}
+use Rattle.octets.proofs.Words.{word-back}
+use Rattle.ring.specs.Packet.{headerAt, paddingField, typeField, mctpType, wholeOf, sizeOf, packetOf, paddingFor, wholeFor, headerFor, ringBytes}
+use Rattle.ring.specs.Turn.{turn}
+
+pub word-length : (w : ℕ) → length (wordBytes highFirst w) ≡ 4
+unfolding wordBytes
+word-length w = refl
+
+-- the same four bytes make the same word
+pub word-four : (o : Order) (s t : List ℕ) (i j : ℕ) → ((k : ℕ) → k < 4 → getD s (i + k) 0 ≡ getD t (j + k) 0) → wordAt o s i ≡ wordAt o t j
+unfolding wordAt
+word-four lowFirst s t i j e = cc (simp add-zero at (e 0 (lit< tt)), e 1 (lit< tt), e 2 (lit< tt), e 3 (lit< tt))
+word-four highFirst s t i j e = cc (simp add-zero at (e 0 (lit< tt)), e 1 (lit< tt), e 2 (lit< tt), e 3 (lit< tt))
+
+-- a header's four bytes don't run over the ring's end
+pub header-straight : (ring : List ℕ) (p : ℕ) → p + 4 ≤ length ring → wordAt highFirst ring p ≡ headerAt (turn p ring)
+unfolding turn
+header-straight ring p h =
+    word-four highFirst ring (turn p ring) p 0
+    (λ (k : ℕ) (below : k < 4).
+    rw (zero-add k)
+    (sym
+    (List·getD-append (drop p ring) (take p ring) 0 k (omega (arith, length-drop p ring))
+    ∙ getD-drop p ring k 0)))
+
+-- the fields of a header that was put together
+fields : (k pad : ℕ) → pad < 4 → ((k * 1024 + pad * 256 + 4) / 1024 ≡ k) × ((k * 1024 + pad * 256 + 4) / 256 % 4 ≡ pad) × ((k * 1024 + pad * 256 + 4) % 16 ≡ 4)
+fields k pad h = (omega arith, omega arith, omega arith)
+
+-- a written header says what it was written for
+module _ (n : ℕ) where
+  pub header-padding : paddingField (headerFor n) ≡ paddingFor n
+  unfolding headerFor
+  header-padding = fields (wholeFor n / 4 - 1) (paddingFor n) (omega arith) .1
+
+  pub header-type : typeField (headerFor n) ≡ mctpType
+  unfolding headerFor
+  header-type = fields (wholeFor n / 4 - 1) (paddingFor n) (omega arith) .2
+
+  pub header-whole : wholeOf (headerFor n) ≡ wholeFor n
+  unfolding headerFor
+  header-whole = ap (λ (k : ℕ). (k + 1) * 4) (fields (wholeFor n / 4 - 1) (paddingFor n) (omega arith) .0) ∙ omega arith
+
+  pub header-size : sizeOf (headerFor n) ≡ n
+  header-size = omega (arith, header-whole, header-padding)
+
+  -- and has 32 bits, for any packet that a carrier takes
+  pub header-fits : n ≤ 250 → headerFor n < 2 ^ 32
+  unfolding headerFor
+  header-fits h = omega arith
+
+-- written bytes read back, whatever stands behind them
+module _ (packet rest : List ℕ) where
+  bytes-split : ringBytes packet ++ rest ≡ wordBytes highFirst (headerFor (length packet)) ++ (packet ++ (replicate (paddingFor (length packet)) 0 ++ rest))
+  unfolding ringBytes
+  bytes-split =
+      append-assoc (wordBytes highFirst (headerFor (length packet))) (packet ++ replicate (paddingFor (length packet)) 0) rest
+      ∙ ap (λ (s : List ℕ). wordBytes highFirst (headerFor (length packet)) ++ s) (append-assoc packet (replicate (paddingFor (length packet)) 0) rest)
+
+  pub header-back : length packet ≤ 250 → headerAt (ringBytes packet ++ rest) ≡ headerFor (length packet)
+  header-back h =
+      ap headerAt bytes-split
+      ∙ word-back highFirst (headerFor (length packet)) (packet ++ (replicate (paddingFor (length packet)) 0 ++ rest)) (header-fits (length packet) h)
+
+  pub packet-back : length packet ≤ 250 → packetOf (ringBytes packet ++ rest) ≡ packet
+  unfolding packetOf
+  packet-back h =
+      let four : length (wordBytes highFirst (headerFor (length packet))) ≡ 4 = word-length (headerFor (length packet)) in
+      ap (λ (n : ℕ). take n (drop 4 (ringBytes packet ++ rest))) (ap sizeOf (header-back h) ∙ header-size (length packet))
+      ∙ ap (λ (s : List ℕ). take (length packet) (drop 4 s)) bytes-split
+      ∙ ap (take (length packet)) (drop-at (wordBytes highFirst (headerFor (length packet))) (packet ++ (replicate (paddingFor (length packet)) 0 ++ rest)) 4 four)
+      ∙ take-at packet (replicate (paddingFor (length packet)) 0 ++ rest) (length packet) refl
+
+pub bytes-length : (packet : List ℕ) → length (ringBytes packet) ≡ wholeFor (length packet)
+unfolding ringBytes
+bytes-length packet =
+    let w = wordBytes highFirst (headerFor (length packet)) in
+    let pad = replicate {A = ℕ} (paddingFor (length packet)) 0 in
+    length-append w (packet ++ pad)
+    ∙ omega (arith, word-length (headerFor (length packet)), length-append packet pad, length-replicate {A = ℕ} (paddingFor (length packet)) 0)

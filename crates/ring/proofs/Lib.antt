@@ -1,0 +1,12 @@
+pub mod Orders
+pub mod Numbers
+pub mod Turns
+pub mod Headers
+pub mod Readings
+pub mod Writings
+pub mod Held
+pub mod RoundTrip
+pub mod Fifo
+pub mod Ignored
+pub mod Literal
+pub mod Determined

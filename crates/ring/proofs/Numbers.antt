@@ -1,0 +1,175 @@
+-- A ring's numbers: filled and next below the length and at the ring's end, and how they move with each other.
+-- Only the first laws look inside `%`.
+-- Assumes nothing.
+use mathlib.Core.Path.{_≡_, refl, ap, sym, _∙_}
+use mathlib.Core.Bool.{true}
+use mathlib.Core.Logic.{_⊎_, inl, inr, ⊎-elim, by-cases}
+use Prim.Native.Nat.{ℕ, _+_, _-_, _%_, _≤_, _<_}
+use native.Mathlib.Nat.{mod-lt, mod-eq-of-lt, mod-eq-sub-mod, mod-add-mod, add-assoc}
+use native.Mathlib.Decide.{decLt}
+use native.Mathlib.Omega.{arith}
+use borrow.Author.Tests.{eqb-true, ltb-true, eq-eqb, lt-ltb}
+use lib.Dec.{ltb, eqb}
+use Rattle.octets.specs.Choice.{within}
+use Rattle.octets.proofs.Choice.{both, within-bounds, within-holds}
+use Rattle.ring.specs.Numbers.{lengthRight, pointerRight, filledOf, roomOf, nextOf}
+
+-- a length inside the rule, as numbers
+pub record Length (length : ℕ) : Type 0 where
+  pub low : 128 ≤ length
+  pub high : length ≤ 65536
+  pub fours : length % 4 ≡ 0
+
+pub length-facts : (length : ℕ) → lengthRight length ≡ true → Length length
+length-facts length e =
+    let h = both (within 128 65536 length) (eqb (length % 4) 0) e in
+    let b = within-bounds 128 65536 length (h .0) in
+    record { low = b .0; high = b .1; fours = eqb-true (length % 4) 0 (h .1) }
+
+pub length-holds : (length : ℕ) → Length length → lengthRight length ≡ true
+length-holds length h = rw (within-holds 128 65536 length (h .low) (h .high), eq-eqb (length % 4) 0 (h .fours))
+
+-- a pointer inside the rule, as numbers
+pub record Pointer (length pointer : ℕ) : Type 0 where
+  pub fours : pointer % 4 ≡ 0
+  pub below : pointer < length
+
+pub pointer-facts : (length pointer : ℕ) → pointerRight length pointer ≡ true → Pointer length pointer
+pointer-facts length pointer e =
+    let h = both (eqb (pointer % 4) 0) (ltb pointer length) e in
+    record { fours = eqb-true (pointer % 4) 0 (h .0); below = ltb-true pointer length (h .1) }
+
+pub pointer-holds : (length pointer : ℕ) → Pointer length pointer → pointerRight length pointer ≡ true
+pointer-holds length pointer h = rw (eq-eqb (pointer % 4) 0 (h .fours), lt-ltb pointer length (h .below))
+
+module _ (length pointer : ℕ) (n : ℕ) where
+  pub next-near : pointer + n < length → nextOf length pointer n ≡ pointer + n
+  unfolding nextOf
+  next-near h = mod-eq-of-lt h
+
+  pub next-over : length ≤ pointer + n → pointer + n < length + length → nextOf length pointer n ≡ pointer + n - length
+  unfolding nextOf
+  next-over h k = mod-eq-sub-mod h ∙ mod-eq-of-lt (omega arith)
+
+  pub next-below : 0 < length → nextOf length pointer n < length
+  unfolding nextOf
+  next-below h = mod-lt (pointer + n) h
+
+module _ (length read write : ℕ) where
+  pub filled-near : read ≤ write → write < length → filledOf length read write ≡ write - read
+  unfolding filledOf
+  filled-near h k = mod-eq-sub-mod (omega arith) ∙ mod-eq-of-lt (omega arith) ∙ omega arith
+
+  pub filled-over : write < read → read < length → filledOf length read write ≡ length + write - read
+  unfolding filledOf
+  filled-over h k = mod-eq-of-lt (omega arith)
+
+-- filled, by the order of the pointers
+module _ (length read write : ℕ) (r : read < length) (w : write < length) where
+  pub filled-cases : ((filledOf length read write ≡ write - read) × (read ≤ write)) ⊎ ((filledOf length read write ≡ length + write - read) × (write < read))
+  filled-cases =
+      by-cases (decLt write read)
+      (λ (h : write < read). inr (filled-over length read write h r, h))
+      (λ (h : write < read → ⊥). inl (filled-near length read write (omega arith) w, omega arith))
+
+  pub filled-below : filledOf length read write < length
+  filled-below = ⊎-elim (λ c. omega arith) (λ c. omega arith) filled-cases
+
+  -- "Equal pointers mean empty."
+  pub filled-empty : filledOf length read write ≡ 0 → read ≡ write
+  filled-empty e = ⊎-elim (λ c. omega arith) (λ c. omega arith) filled-cases
+
+-- next, before the ring's end or over it
+module _ (length pointer n : ℕ) (p : pointer < length) (s : n ≤ length) where
+  pub next-cases : ((nextOf length pointer n ≡ pointer + n) × (pointer + n < length)) ⊎ ((nextOf length pointer n ≡ pointer + n - length) × (length ≤ pointer + n))
+  next-cases =
+      by-cases (decLt (pointer + n) length)
+      (λ (h : pointer + n < length). inl (next-near length pointer n h, h))
+      (λ (h : pointer + n < length → ⊥). inr (next-over length pointer n (omega arith) (omega arith), omega arith))
+
+  pub next-right : length % 4 ≡ 0 → pointer % 4 ≡ 0 → n % 4 ≡ 0 → Pointer length (nextOf length pointer n)
+  next-right l f g =
+      ⊎-elim (λ c. record { fours = ap (λ (k : ℕ). k % 4) (c .0) ∙ omega arith; below = omega arith }) (λ c. record { fours = ap (λ (k : ℕ). k % 4) (c .0) ∙ omega arith; below = omega arith }) next-cases
+
+  -- two steps are one
+  pub next-next : (m : ℕ) → n + m ≤ length → nextOf length (nextOf length pointer n) m ≡ nextOf length pointer (n + m)
+  unfolding nextOf
+  next-next m h = mod-add-mod (pointer + n) length m ∙ ap (λ (k : ℕ). k % length) (add-assoc pointer n m)
+
+-- the write pointer stands after what is filled
+pub next-filled : (length read write : ℕ) → read < length → write < length → nextOf length read (filledOf length read write) ≡ write
+next-filled length read write r w =
+    ⊎-elim
+    (λ c. ap (nextOf length read) (c .0) ∙ next-near length read (write - read) (omega arith) ∙ omega arith)
+    (λ c. ap (nextOf length read) (c .0) ∙ next-over length read (length + write - read) (omega arith) (omega arith) ∙ omega arith)
+    (filled-cases length read write r w)
+
+-- as many bytes after a pointer as are filled
+pub filled-next : (length read n : ℕ) → read < length → n < length → filledOf length read (nextOf length read n) ≡ n
+filled-next length read n r h =
+    ⊎-elim
+    (λ c. ap (filledOf length read) (c .0) ∙ filled-near length read (read + n) (omega arith) (omega arith) ∙ omega arith)
+    (λ c. ap (filledOf length read) (c .0) ∙ filled-over length read (read + n - length) (omega arith) (omega arith) ∙ omega arith)
+    (next-cases length read n r (omega arith))
+
+module _ (length read write n : ℕ) (r : read < length) (w : write < length) where
+  -- n bytes put in
+  pub filled-written : filledOf length read write + n < length → filledOf length read (nextOf length write n) ≡ filledOf length read write + n
+  filled-written h =
+      let f = filled-below length read write r w in
+      ap (λ (p : ℕ). filledOf length read (nextOf length p n)) (sym (next-filled length read write r w))
+      ∙ ap (filledOf length read) (next-next length read (filledOf length read write) r (omega arith) n (omega arith))
+      ∙ filled-next length read (filledOf length read write + n) r h
+
+  -- n bytes taken out
+  pub filled-taken : n ≤ filledOf length read write → filledOf length (nextOf length read n) write ≡ filledOf length read write - n
+  filled-taken h =
+      let f = filled-below length read write r w in
+      let rest : n + (filledOf length read write - n) ≡ filledOf length read write = omega arith in
+      ap (filledOf length (nextOf length read n)) (sym (next-filled length read write r w) ∙ ap (nextOf length read) (sym rest) ∙ sym (next-next length read n r (omega arith) (filledOf length read write - n) (omega arith)))
+      ∙ filled-next length (nextOf length read n) (filledOf length read write - n) (next-below length read n (omega arith)) (omega arith)
+
+module _ (length read write : ℕ) (l : Length length) (r : Pointer length read) (w : Pointer length write) where
+  pub filled-fours : filledOf length read write % 4 ≡ 0
+  filled-fours =
+      let a = r .fours in
+      let b = w .fours in
+      let d = l .fours in
+      let under = r .below in
+      ⊎-elim (λ c. ap (λ (k : ℕ). k % 4) (c .0) ∙ omega arith) (λ c. ap (λ (k : ℕ). k % 4) (c .0) ∙ omega arith) (filled-cases length read write (r .below) (w .below))
+
+  pub filled-high : filledOf length read write + 4 ≤ length
+  filled-high = omega (arith, filled-below length read write (r .below) (w .below), filled-fours, l .fours)
+
+  -- a header always fits in what is filled, once the ring is not empty
+  pub filled-header : (read ≡ write → ⊥) → 4 ≤ filledOf length read write
+  filled-header some =
+      by-cases (decLt (filledOf length read write) 4)
+      (λ (h : filledOf length read write < 4). absurd (some (filled-empty length read write (r .below) (w .below) (omega (arith, filled-fours)))))
+      (λ (h : filledOf length read write < 4 → ⊥). omega arith)
+
+  -- "Room is length − filled − 4"
+  pub filled-room : filledOf length read write + roomOf length read write + 4 ≡ length
+  unfolding roomOf
+  filled-room = omega (arith, filled-high)
+
+  -- "so a full ring never looks empty"
+  pub full-not-empty : roomOf length read write ≡ 0 → read ≡ write → ⊥
+  full-not-empty full e =
+      let none : filledOf length read read ≡ 0 = filled-near length read read (omega arith) (r .below) ∙ omega arith in
+      omega (arith, filled-room, none, ap (filledOf length read) e, l .low)
+
+-- "Ring 128: read 120, write 8: filled 16, room 108."
+pub numbers-over : (filledOf 128 120 8 ≡ 16) × (roomOf 128 120 8 ≡ 108)
+unfolding filledOf roomOf
+numbers-over = (refl, refl)
+
+-- "Both 0: filled 0, room 124."
+pub numbers-empty : (filledOf 128 0 0 ≡ 0) × (roomOf 128 0 0 ≡ 124)
+unfolding filledOf roomOf
+numbers-empty = (refl, refl)
+
+-- "Read 4, write 0: filled 124, room 0."
+pub numbers-full : (filledOf 128 4 0 ≡ 124) × (roomOf 128 4 0 ≡ 0)
+unfolding filledOf roomOf
+numbers-full = (refl, refl)

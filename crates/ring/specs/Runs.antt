@@ -1,0 +1,67 @@
+-- Runs of writes and reads on one ring: what the laws "a good arrival" and "first in, first out" speak of.
+-- Assumes nothing.
+use Prim.Native.Nat.{ℕ, zero, suc, _+_}
+use mathlib.Core.Bool.{Bool, true, _&&_}
+use mathlib.Core.List.{List, [], _∷_, _++_}
+use lib.ListN.{length, take, replicate}
+use Rattle.mctp.specs.Packet.{packetSize}
+use Rattle.ring.specs.Packet.{wholeFor, ringBytes}
+use Rattle.ring.specs.Reading as reading
+use Rattle.ring.specs.Turn.{stored}
+use Rattle.ring.specs.Writing as writing
+
+-- a ring of so many zero bytes, with one packet at its front
+unfoldable pub arrivalRing : ℕ → List ℕ → List ℕ
+arrivalRing configured p = stored (replicate configured 0) 0 (ringBytes p)
+
+-- every packet has a size that a carrier takes
+unfoldable pub allSized : ℕ → List (List ℕ) → Bool
+allSized most [] = true
+allSized most (p ∷ packets) = packetSize most (length p) && allSized most packets
+
+-- all that the packets take up in the ring
+unfoldable pub spaceFor : List (List ℕ) → ℕ
+spaceFor [] = 0
+spaceFor (p ∷ packets) = wholeFor (length p) + spaceFor packets
+
+-- the packets with their headers and padding, one after the other
+unfoldable pub allBytes : List (List ℕ) → List ℕ
+allBytes [] = []
+allBytes (p ∷ packets) = ringBytes p ++ allBytes packets
+
+-- what the writer keeps: the ring's bytes and the write pointer
+pub record Kept : Type 0 where
+  pub ring : List ℕ
+  pub write : ℕ
+
+-- the write pointer after an answer; a refusal leaves it
+abbrev pub pointerAfter : writing.Said → ℕ → ℕ
+pointerAfter (writing.written next) write = next
+pointerAfter (writing.refused number) write = write
+
+-- one packet written, whatever the answer
+unfoldable pub wrote : ℕ → ℕ → ℕ → Kept → List ℕ → Kept
+wrote most configured read kept p =
+    record {
+      ring = writing.writeOf most (kept .ring) configured true read (kept .write) p .ring;
+      write = pointerAfter (writing.writeOf most (kept .ring) configured true read (kept .write) p .says) (kept .write);
+    }
+
+-- packets written one after the other
+unfoldable pub writeAll : ℕ → ℕ → ℕ → Kept → List (List ℕ) → Kept
+writeAll most configured read kept [] = kept
+writeAll most configured read kept (p ∷ packets) = writeAll most configured read (wrote most configured read kept p) packets
+
+-- a packet taken from the output's front, and then what is read from the pointer after it; nothing where there is no packet
+abbrev pub andThen : reading.Said → List ℕ → (ℕ → List (List ℕ)) → List (List ℕ)
+andThen (reading.packet size next) output rest = take size output ∷ rest next
+andThen reading.empty output rest = []
+andThen (reading.skipped number next) output rest = []
+andThen (reading.refused number) output rest = []
+
+-- so many packets read one after the other
+unfoldable pub readAll : ℕ → ℕ → List ℕ → List ℕ → ℕ → ℕ → ℕ → List (List ℕ)
+readAll most configured ring out write zero read = []
+readAll most configured ring out write (suc n) read =
+    andThen (reading.readOf most ring configured true read write out .says) (reading.readOf most ring configured true read write out .output)
+    (readAll most configured ring out write n)

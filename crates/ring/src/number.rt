@@ -1,0 +1,54 @@
+// The ring's numbers: what is filled, what is left, and the pointer after so many bytes.
+ghost use mathlib.Core.Path.{_≡_};
+ghost use Prim.Native.Nat.{_+_, _≤_, _<_};
+ghost use Rattle.mctp.specs.Packet.{packetSize};
+ghost use Rattle.ring.specs.Numbers.{setUpRight, pointersRight, filledOf, roomOf, nextOf};
+
+// What 1 asks of the largest body, the configured length and that of the lent ring.
+pub fn set_up_right(most: usize, length: usize, lent: usize) -> bool
+    ensures { λ r. ⌜ r ≡ setUpRight most length lent ⌝ }
+{
+    (64 <= most)
+        & (most <= 246)
+        & ((128 <= length) & (length <= 65536) & (length % 4 == 0))
+        & (length == lent)
+}
+
+// What 12 asks of the pointers.
+pub fn pointers_right(length: usize, read: usize, write: usize) -> bool
+    ensures { λ r. ⌜ r ≡ pointersRight length read write ⌝ }
+{
+    ((read % 4 == 0) & (read < length)) & ((write % 4 == 0) & (write < length))
+}
+
+// "5 to 68 in all", where 68 is 4 + `most`.
+pub fn size_right(most: usize, size: usize) -> bool
+    requires { ⌜ most ≤ 246 ⌝ }
+    ensures { λ r. ⌜ r ≡ packetSize most size ⌝ }
+{
+    (5 <= size) & (size <= 4 + most)
+}
+
+// "Filled is (write − read) modulo the ring length."
+pub fn filled(length: usize, read: usize, write: usize) -> usize
+    requires { ⌜ (length ≤ 65536) × (read < length) × (write < length) ⌝ }
+    ensures { λ r. ⌜ r ≡ filledOf length read write ⌝ }
+{
+    (length + write - read) % length
+}
+
+// "Room is length − filled − 4 (house rule), so a full ring never looks empty."
+pub fn room(length: usize, read: usize, write: usize) -> usize
+    requires { ⌜ (length ≤ 65536) × (read < length) × (write < length) × (filledOf length read write + 4 ≤ length) ⌝ }
+    ensures { λ r. ⌜ r ≡ roomOf length read write ⌝ }
+{
+    length - filled(length, read, write) - 4
+}
+
+// The pointer `n` bytes after another, round the ring's end.
+pub fn next(length: usize, pointer: usize, n: usize) -> usize
+    requires { ⌜ (length ≤ 65536) × (pointer < length) × (n ≤ length) ⌝ }
+    ensures { λ r. ⌜ r ≡ nextOf length pointer n ⌝ }
+{
+    (pointer + n) % length
+}

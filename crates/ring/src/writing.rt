@@ -1,0 +1,147 @@
+// A packet put into the ring.
+use crate::number;
+use crate::round;
+use mctp::Refusal;
+use mmbi::Flags;
+ghost use mathlib.Core.Path.{_≡_};
+ghost use Prim.Native.Nat.{_+_, _≤_, _<_};
+ghost use lib.ListN.{length};
+ghost use Rattle.octets.specs.Bytes.{laid};
+ghost use Rattle.octets.specs.Words.{highFirst, wordBytes};
+ghost use Rattle.mmbi.specs.Interface.{stateOf, mayWrite};
+ghost use Rattle.ring.specs.Packet.{paddingFor, wholeFor, headerFor, ringBytes};
+ghost use Rattle.ring.specs.Turn.{stored};
+ghost use Rattle.ring.specs.Writing.{saidOf, putOf, writeOf, left};
+
+pub enum Put {
+    // The new write pointer.
+    Stored(usize),
+    Refused(Refusal),
+}
+
+// "padding to a multiple of 4", for a packet of `size` bytes.
+fn padding_for(size: usize) -> usize
+    ensures { λ r. ⌜ r ≡ paddingFor size ⌝ }
+{
+    (4 - size % 4) % 4
+}
+
+// The header of Table 6 for a packet of `size` bytes, with MCTP's type.
+fn header_for(size: usize) -> u32
+    requires { ⌜ size ≤ 250 ⌝ }
+    ensures { λ r. ⌜ r ≡ headerFor size ⌝ }
+{
+    let padding = padding_for(size);
+    let whole = 4 + size + padding;
+    ((whole / 4 - 1) * 1024 + padding * 256 + 4) as u32
+}
+
+// What writing answers, from the packet's size alone; nothing is stored yet.
+fn judge(
+    most: usize,
+    lent: usize,
+    configured: usize,
+    running: bool,
+    read: usize,
+    write: usize,
+    size: usize,
+) -> Put
+    ensures { λ r. ⌜ saidOf r ≡ putOf most lent configured running read write size ⌝ }
+{
+    if !number::set_up_right(most, configured, lent) {
+        return Put::Refused(Refusal::Setup);
+    }
+    if !number::size_right(most, size) {
+        return Put::Refused(Refusal::Size);
+    }
+    if !running {
+        return Put::Refused(Refusal::NotRunning);
+    }
+    if !number::pointers_right(configured, read, write) {
+        return Put::Refused(Refusal::Pointer);
+    }
+    let whole = 4 + size + padding_for(size);
+    let room = number::room(configured, read, write);
+    if room < whole {
+        return Put::Refused(Refusal::Room);
+    }
+    Put::Stored(number::next(configured, write, whole))
+}
+
+// A header stored at a pointer, where its four bytes don't run over the ring's end.
+fn lay_header(ring: &mut [u8], at: usize, header: u32)
+    ensures { λ _. ⌜ now (ring .exit) ≡ laid (now (ring .entry)) at (wordBytes highFirst header) ⌝ }
+{
+    octets::lay_high_first(ring, at, header);
+}
+
+// The packet with its header and its padding, stored from the write pointer on.
+fn fill(ring: &mut [u8], write: usize, packet: &[u8])
+    requires { ⌜ (length (now ring) ≤ 65536) × (write + 4 ≤ length (now ring)) × (length (now packet) ≤ 250) × (wholeFor (length (now packet)) ≤ length (now ring)) ⌝ }
+    ensures { λ _. ⌜ now (ring .exit) ≡ stored (now (ring .entry)) write (ringBytes (now (packet .entry))) ⌝ }
+{
+    let size = packet.len();
+    let padding = padding_for(size);
+    let lent = ring.len();
+    lay_header(ring, write, header_for(size));
+    round::copy_in(ring, number::next(lent, write, 4), packet);
+    let zeros = [0u8; 3];
+    round::copy_in(
+        ring,
+        number::next(lent, write, 4 + size),
+        &zeros[0..padding],
+    );
+}
+
+// Writing with a largest body of the caller's.
+pub fn write_up_to(
+    most: usize,
+    ring: &mut [u8],
+    configured: usize,
+    running: bool,
+    read: usize,
+    write: usize,
+    packet: &[u8],
+) -> Put
+    ensures { λ r. ⌜ left (saidOf r) (now (ring .exit)) ≡ writeOf most (now (ring .entry)) configured running read write (now (packet .entry)) ⌝ }
+{
+    let put = judge(
+        most,
+        ring.len(),
+        configured,
+        running,
+        read,
+        write,
+        packet.len(),
+    );
+    match put {
+        Put::Stored(next) => {
+            fill(ring, write, packet);
+            Put::Stored(next)
+        }
+        Put::Refused(refusal) => Put::Refused(refusal),
+    }
+}
+
+// A packet put into the ring at the write pointer.
+pub fn write(
+    ring: &mut [u8],
+    configured: usize,
+    flags: Flags,
+    read: usize,
+    write: usize,
+    packet: &[u8],
+) -> Put
+    ensures { λ r. ⌜ left (saidOf r) (now (ring .exit)) ≡ writeOf 64 (now (ring .entry)) configured (mayWrite (stateOf flags)) read write (now (packet .entry)) ⌝ }
+{
+    let running = mmbi::may_write(mmbi::state(flags));
+    write_up_to(
+        mctp::LARGEST_BODY,
+        ring,
+        configured,
+        running,
+        read,
+        write,
+        packet,
+    )
+}
