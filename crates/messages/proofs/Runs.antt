@@ -1,0 +1,149 @@
+-- Runs: one after the other, a right state stays right, the memory keeps its size, and a slot's bytes stay until a call writes there.
+-- Assumes nothing.
+use mathlib.Core.Path.{_≡_, refl, ap, sym, _∙_}
+use mathlib.Core.Bool.{Bool, true, false, not, _&&_}
+use mathlib.Core.Logic.{by-cases}
+use native.Mathlib.Decide.{decLt}
+use borrow.Author.Tests.{eqb-false, ltb-true, not-true}
+use lib.Dec.{eqb, ltb, lit<}
+use Rattle.octets.specs.Bytes.{laid}
+use Rattle.octets.proofs.Choice.{both}
+use Rattle.octets.proofs.Laid.{laid-length}
+use Rattle.mctp.specs.Packet.{bodyOf}
+use Rattle.slots.specs.declared.state.SlotState.{SlotState}
+use Rattle.slots.specs.declared.state.SlotState.the-variants.{Free, Gathering}
+use mathlib.Core.List.{List, [], _∷_, _++_, append-assoc}
+use Prim.Native.Nat.{ℕ, _+_, _*_, _≤_, _<_}
+use native.Mathlib.Omega.{arith}
+use lib.ListN.{length}
+use Rattle.slots.specs.declared.state.Receiver.{Receiver}
+use Rattle.slots.specs.Slots.{slotAt}
+use Rattle.slots.specs.State.{rightState}
+use Rattle.slots.specs.Changes.{Kept, withState, freedOf}
+use Rattle.slots.proofs.States.{slot-other}
+use Rattle.slots.proofs.Kept.{freed-right}
+use Rattle.receiver.specs.Step.{answerOf, carried, stepOf}
+use Rattle.receiver.specs.Effects.{OneSlot}
+use Rattle.receiver.proofs.Picked.{pick-elim}
+use Rattle.receiver.proofs.Decided.{every-decision}
+use Rattle.receiver.proofs.Laid.{laid-before, laid-behind, part-same}
+use Rattle.receiver.proofs.Laws.{step-right, one-slot}
+use Rattle.messages.specs.Run.{Call, give, free, message, Ran, called, joined, run, intoSlot, untouched}
+
+-- a slot freed leaves the others
+pub freed-others : (most : ℕ) (r : Receiver) (i j : ℕ) → (j ≡ i → ⊥) → slotAt (freedOf most r j .receiver .slots) i ≡ slotAt (r .slots) i
+unfolding freedOf
+freed-others most r i j d =
+    pick-elim (λ (k : Kept). slotAt (k .receiver .slots) i ≡ slotAt (r .slots) i) (rightState most r && ltb j 4)
+    (record { number = 0; receiver = withState r j Free })
+    (record { number = 1; receiver = r })
+    (λ e. slot-other (r .slots) j i Free (λ s. d (sym s)))
+    (λ e. refl)
+
+freed-one-slot : (most : ℕ) (r : Receiver) (m : List ℕ) (j : ℕ) → OneSlot r m (freedOf most r j .receiver) m
+unfolding freedOf
+freed-one-slot most r m j =
+    pick-elim (λ (k : Kept). OneSlot r m (k .receiver) m) (rightState most r && ltb j 4)
+    (record { number = 0; receiver = withState r j Free })
+    (record { number = 1; receiver = r })
+    (λ e.
+    record {
+      slot = j;
+      one-of-four = ltb-true j 4 (both (rightState most r) (ltb j 4) e .1);
+      setup = refl;
+      others = λ i d. slot-other (r .slots) j i Free d;
+      size = refl;
+      bytes-before = λ k h. refl;
+      bytes-behind = λ k h. refl;
+    })
+    (λ e. record { slot = 0; one-of-four = lit< tt; setup = refl; others = λ i d. refl; size = refl; bytes-before = λ k h. refl; bytes-behind = λ k h. refl })
+
+module _ (most : ℕ) where
+  -- no call: nothing
+  pub run-none : (r : Receiver) (m : List ℕ) → run most r m [] ≡ record { answers = []; messages = []; receiver = r; memory = m }
+  unfolding run
+  run-none r m = refl
+
+  -- one call, then the rest
+  pub run-step : (r : Receiver) (m : List ℕ) (c : Call) (calls : List Call)
+      → run most r m (c ∷ calls) ≡ joined (called most r m c) (run most (called most r m c .receiver) (called most r m c .memory) calls)
+  unfolding run
+  run-step r m c calls = refl
+
+  joined-assoc : (a b c : Ran) → joined a (joined b c) ≡ joined (joined a b) c
+  joined-assoc a b c =
+      let answers = sym (append-assoc (a .answers) (b .answers) (c .answers)) in
+      let messages = sym (append-assoc (a .messages) (b .messages) (c .messages)) in
+      λ i. record { answers = answers i; messages = messages i; receiver = c .receiver; memory = c .memory }
+
+  -- one list of calls after the other
+  pub run-append : (r : Receiver) (m : List ℕ) (a b : List Call)
+      → run most r m (a ++ b) ≡ joined (run most r m a) (run most (run most r m a .receiver) (run most r m a .memory) b)
+  unfolding run
+  run-append r m [] b = refl
+  run-append r m (c ∷ a) b =
+      let first = called most r m c in
+      ap (joined first) (run-append (first .receiver) (first .memory) a b)
+      ∙ joined-assoc first (run most (first .receiver) (first .memory) a) (run most (run most (first .receiver) (first .memory) a .receiver) (run most (first .receiver) (first .memory) a .memory) b)
+
+  -- any call changes at most one slot and that slot's 1,024 bytes
+  pub called-one-slot : (r : Receiver) (m : List ℕ) (c : Call) → OneSlot r m (called most r m c .receiver) (called most r m c .memory)
+  called-one-slot r m (give p) = one-slot most r m p
+  called-one-slot r m (free j) = freed-one-slot most r m j
+
+  -- a right state stays right under every call
+  pub called-right : (r : Receiver) (m : List ℕ) (c : Call) → rightState most r ≡ true → rightState most (called most r m c .receiver) ≡ true
+  called-right r m (give p) e = step-right most r m p e
+  called-right r m (free i) e = freed-right most r i e
+
+  pub run-right : (r : Receiver) (m : List ℕ) (calls : List Call) → rightState most r ≡ true → rightState most (run most r m calls .receiver) ≡ true
+  unfolding run
+  run-right r m [] e = e
+  run-right r m (c ∷ calls) e = run-right (called most r m c .receiver) (called most r m c .memory) calls (called-right r m c e)
+
+  -- the memory keeps its size
+  pub called-size : (r : Receiver) (m : List ℕ) (c : Call) → length (called most r m c .memory) ≡ length m
+  called-size r m c = called-one-slot r m c .size
+
+  pub run-size : (r : Receiver) (m : List ℕ) (calls : List Call) → length (run most r m calls .memory) ≡ length m
+  unfolding run
+  run-size r m [] = refl
+  run-size r m (c ∷ calls) = run-size (called most r m c .receiver) (called most r m c .memory) calls ∙ called-size r m c
+
+  -- a body put into another slot leaves this slot's bytes
+  pub slot-apart : (m : List ℕ) (i j at : ℕ) (b : List ℕ) (n : ℕ) → (j ≡ i → ⊥) → at + length b ≤ 1024 → n ≤ 1024
+      → message (laid m (1024 * j + at) b) i n ≡ message m i n
+  slot-apart m i j at b n d fits high =
+      part-same (laid m (1024 * j + at) b) m (1024 * i) n (laid-length m (1024 * j + at) b)
+      (λ k low up.
+      by-cases (decLt i j)
+      (λ (h : i < j). laid-before m (1024 * j + at) b k (omega arith))
+      (λ (h : i < j → ⊥). laid-behind m (1024 * j + at) b k (omega arith)))
+
+  -- a body that is put says into which slot
+  into-put : (then : SlotState) (i j b : ℕ) (again : Bool) → intoSlot i (answerOf then j b again) ≡ eqb j i
+  into-put Free i j b again = refl
+  into-put (Gathering k q u h) i j b again = refl
+
+  pub step-stays : (r : Receiver) (m p : List ℕ) (i n : ℕ) → n ≤ 1024 → intoSlot i (stepOf most r m p .said) ≡ false
+      → message (stepOf most r m p .memory) i n ≡ message m i n
+  unfolding stepOf
+  step-stays r m p i n high e =
+      every-decision most r (length m) p (λ d. intoSlot i (carried r m p d .said) ≡ false → message (carried r m p d .memory) i n ≡ message m i n)
+      (λ k low up s. refl)
+      (λ x j k h low up c s. refl)
+      (λ x y j at again then f s. slot-apart m i j at (bodyOf p) n (eqb-false j i (sym (into-put then i j (at + length (bodyOf p)) again) ∙ s)) (f .place) high)
+      e
+
+  -- "Its bytes stay until a later call writes there."
+  pub run-stays : (r : Receiver) (m : List ℕ) (calls : List Call) (i n : ℕ) → n ≤ 1024 → untouched i (run most r m calls .answers) ≡ true
+      → message (run most r m calls .memory) i n ≡ message m i n
+  unfolding run
+  run-stays r m [] i n high e = refl
+  run-stays r m (give p ∷ calls) i n high e =
+      let c = called most r m (give p) in
+      let h = both (not (intoSlot i (stepOf most r m p .said))) (untouched i (run most (c .receiver) (c .memory) calls .answers)) e in
+      run-stays (c .receiver) (c .memory) calls i n high (h .1) ∙ step-stays r m p i n high (not-true _ (h .0))
+  run-stays r m (free j ∷ calls) i n high e =
+      let c = called most r m (free j) in
+      run-stays (c .receiver) (c .memory) calls i n high e

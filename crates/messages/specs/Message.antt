@@ -1,0 +1,120 @@
+-- The packets of one message, and what may stand between them (document 01, "Putting messages together").
+-- Assumes nothing.
+use Prim.Native.Nat.{ℕ, _+_, _%_, _≤_, _<_}
+use mathlib.Core.Path.{_≡_}
+use mathlib.Core.Bool.{Bool, true, false}
+use mathlib.Core.List.{List, [], _∷_, _++_, map}
+use mathlib.Core.Logic.{_⊎_}
+use lib.Dec.{ltb}
+use lib.ListN.{length}
+use Rattle.octets.specs.Choice.{pick}
+use Rattle.mctp.specs.declared.packet.Key.{Key}
+use Rattle.mctp.specs.Packet.{bodyOf, startOf, endOf, sequenceOf}
+use Rattle.mctp.specs.Key.{keyOf, sameKey}
+use Rattle.slots.specs.declared.state.Setup.{Setup}
+use Rattle.slots.specs.declared.state.Slot.{Slot}
+use Rattle.slots.specs.declared.state.Receiver.{Receiver}
+use Rattle.slots.specs.declared.state.SlotState.the-variants.{Free}
+use Rattle.slots.specs.Slots.{slotAt, slotOf, lowestFree}
+use Rattle.slots.specs.State.{rightState}
+use Rattle.receiver.specs.Checks.{packetRefusal, sourceRefusal}
+use Rattle.receiver.specs.Rules.{wrongUnit}
+use Rattle.receiver.specs.Step.{refused, held, done, stepOf}
+use Rattle.messages.specs.Run.{Call, give, free, Reply, rules, Ran, called}
+
+-- one thing after the other in a list of calls: a packet of the message, or a call that stands between
+pub data Item : Type 0 where
+  part : List ℕ → Item
+  between : Call → Item
+
+abbrev pub callOf : Item → Call
+callOf (part p) = give p
+callOf (between c) = c
+
+abbrev pub callsOf : List Item → List Call
+callsOf items = map callOf items
+
+-- the bodies of the parts, joined in order
+abbrev pub bodiesOf : List Item → List ℕ
+bodiesOf [] = []
+bodiesOf (part p ∷ items) = bodyOf p ++ bodiesOf items
+bodiesOf (between c ∷ items) = bodiesOf items
+
+-- the last part's sequence; where there is none, the one before
+abbrev pub lastOf : ℕ → List Item → ℕ
+lastOf last [] = last
+lastOf last (part p ∷ items) = lastOf (sequenceOf p) items
+lastOf last (between c ∷ items) = lastOf last items
+
+-- the answers at the parts' places
+abbrev pub partReplies : List Item → List Reply → List Reply
+partReplies [] answers = []
+partReplies (part p ∷ items) [] = []
+partReplies (part p ∷ items) (a ∷ answers) = a ∷ partReplies items answers
+partReplies (between c ∷ items) [] = []
+partReplies (between c ∷ items) (a ∷ answers) = partReplies items answers
+
+-- "Without end: held, with slot and bytes held": the sum of the bodies so far, n of them before these items
+abbrev pub heldReplies : ℕ → ℕ → List Item → List Reply
+heldReplies slot n [] = []
+heldReplies slot n (part p ∷ items) = rules (held slot (n + length (bodyOf p)) false) ∷ heldReplies slot (n + length (bodyOf p)) items
+heldReplies slot n (between c ∷ items) = heldReplies slot n items
+
+-- "Start: takes its key's slot .. else the lowest free slot": 4 where there is neither
+unfoldable pub slotFor : List Slot → Key → ℕ
+slotFor slots k = pick (ltb (slotOf slots k) 4) (slotOf slots k) (lowestFree slots 0 4)
+
+-- a packet with start that no check refuses
+pub record Starts (most : ℕ) (s : Setup) (p : List ℕ) : Type 0 where
+  pub checked : packetRefusal most s p ≡ 0
+  pub source : sourceRefusal p ≡ 0
+  pub start : startOf p ≡ true
+
+-- a packet without start that no check refuses, of this key, with the next sequence ("rising modulo 4"), a middle of the unit's size
+-- or an end no longer, with which no more than 1,024 bytes are held
+pub record Follows (most : ℕ) (s : Setup) (k : Key) (last unit n : ℕ) (p : List ℕ) : Type 0 where
+  pub checked : packetRefusal most s p ≡ 0
+  pub source : sourceRefusal p ≡ 0
+  pub not-start : startOf p ≡ false
+  pub key : keyOf p ≡ k
+  pub sequence : sequenceOf p ≡ (last + 1) % 4
+  pub size : wrongUnit (endOf p) unit (length (bodyOf p)) ≡ false
+  pub room : n + length (bodyOf p) ≤ 1024
+
+-- what may stand between the packets of a message of this key in this slot: a packet of another key, whatever comes of it (a start of
+-- another key may take a free slot), a packet that is refused with anything but 20 to 22, or another slot freed
+abbrev pub Harmless : ℕ → Receiver → List ℕ → Key → ℕ → Call → Type 0
+Harmless most r m k slot (give p) = (sameKey k (keyOf p) ≡ false) ⊎ ((n : ℕ) × (n ≤ 19) × (stepOf most r m p .said ≡ refused n))
+Harmless most r m k slot (free i) = i ≡ slot → ⊥
+
+-- middles of a message, n bytes of which are held, with what stands between, each in the state that the call before it left
+unfoldable pub Middles : ℕ → Key → ℕ → Receiver → List ℕ → ℕ → ℕ → ℕ → List Item → Type 0
+Middles most k slot r m last unit n [] = Unit
+Middles most k slot r m last unit n (part p ∷ items) =
+    Follows most (r .setup) k last unit n p
+    × (endOf p ≡ false)
+    × Middles most k slot (called most r m (give p) .receiver) (called most r m (give p) .memory) (sequenceOf p) unit (n + length (bodyOf p)) items
+Middles most k slot r m last unit n (between c ∷ items) =
+    Harmless most r m k slot c
+    × Middles most k slot (called most r m c .receiver) (called most r m c .memory) last unit n items
+
+-- "every list of packets of one key with start first, sequences rising modulo 4, middles of the start's size, an end no longer", with at most
+-- 1,024 bytes in all, from a right state in which the key has a slot or a slot is free
+pub record Train (most : ℕ) (r : Receiver) (m first : List ℕ) (items : List Item) (final : List ℕ) : Type 0 where
+  pub state : rightState most r ≡ true
+  pub memory : length m ≡ 4096
+  pub room : slotFor (r .slots) (keyOf first) < 4
+  pub starts : Starts most (r .setup) first
+  pub more : endOf first ≡ false
+  pub middles : Middles most (keyOf first) (slotFor (r .slots) (keyOf first)) (called most r m (give first) .receiver) (called most r m (give first) .memory) (sequenceOf first) (length (bodyOf first)) (length (bodyOf first)) items
+  pub follows : Follows most (r .setup) (keyOf first) (lastOf (sequenceOf first) items) (length (bodyOf first)) (length (bodyOf first ++ bodiesOf items)) final
+  pub ends : endOf final ≡ true
+
+-- what a message's packets leave: the first is held (again, where its key had a slot), each middle is held with the sum so far, the last is done
+-- with the total, its message is the bodies joined in order, and the slot is free
+pub record Accepted (r : Receiver) (first : List ℕ) (items : List Item) (final : List ℕ) (whole middle : Ran) (i : ℕ) : Type 0 where
+  pub answers : whole .answers
+      ≡ rules (held i (length (bodyOf first)) (ltb (slotOf (r .slots) (keyOf first)) 4)) ∷ (middle .answers ++ (rules (done i (length (bodyOf first ++ bodiesOf items) + length (bodyOf final)) false) ∷ []))
+  pub held-so-far : partReplies items (middle .answers) ≡ heldReplies i (length (bodyOf first)) items
+  pub messages : whole .messages ≡ middle .messages ++ (((bodyOf first ++ bodiesOf items) ++ bodyOf final) ∷ [])
+  pub slot-free : slotAt (whole .receiver .slots) i ≡ Free

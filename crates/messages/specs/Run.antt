@@ -1,0 +1,76 @@
+-- A run: a list of calls of one receiver, one after the other, from any state and memory (demand 3 is about its packets alone).
+-- Assumes nothing.
+use Prim.Native.Nat.{ℕ, _*_}
+use mathlib.Core.Bool.{Bool, true, false, not, _&&_}
+use lib.Dec.{eqb}
+use mathlib.Core.List.{List, [], _∷_, _++_, map}
+use lib.ListN.{take, drop}
+use Rattle.slots.specs.declared.state.Receiver.{Receiver}
+use Rattle.slots.specs.Changes.{Kept, freedOf}
+use Rattle.receiver.specs.Step.{Said, refused, held, done, Left, stepOf}
+
+-- a call: a packet given to the message rules, or a slot freed
+pub data Call : Type 0 where
+  give : List ℕ → Call
+  free : ℕ → Call
+
+-- what a call answers: the message rules' answer, or the number of the freeing call (0 where good)
+pub data Reply : Type 0 where
+  rules : Said → Reply
+  freed : ℕ → Reply
+
+-- "1,024 for each slot": the first n bytes of a slot
+abbrev pub message : List ℕ → ℕ → ℕ → List ℕ
+message m slot n = take n (drop (1024 * slot) m)
+
+-- the bytes of a done answer; any other answer has none
+abbrev pub messagesOf : Said → List ℕ → List (List ℕ)
+messagesOf (refused n) m = []
+messagesOf (held slot bytes again) m = []
+messagesOf (done slot length again) m = message m slot length ∷ []
+
+-- all that calls leave: their answers and messages in order, the end state and the memory
+pub record Ran : Type 0 where
+  pub answers : List Reply
+  pub messages : List (List ℕ)
+  pub receiver : Receiver
+  pub memory : List ℕ
+
+-- one packet's call, and one freeing call, which leaves the memory
+abbrev pub ofStep : Left → Ran
+ofStep l = record { answers = rules (l .said) ∷ []; messages = messagesOf (l .said) (l .memory); receiver = l .receiver; memory = l .memory }
+
+abbrev pub ofFreed : Kept → List ℕ → Ran
+ofFreed k m = record { answers = freed (k .number) ∷ []; messages = []; receiver = k .receiver; memory = m }
+
+abbrev pub called : ℕ → Receiver → List ℕ → Call → Ran
+called most r m (give p) = ofStep (stepOf most r m p)
+called most r m (free slot) = ofFreed (freedOf most r slot) m
+
+-- what came first, then what came after it
+abbrev pub joined : Ran → Ran → Ran
+joined a b = record { answers = a .answers ++ b .answers; messages = a .messages ++ b .messages; receiver = b .receiver; memory = b .memory }
+
+-- each call in the state and memory that the one before it left
+unfoldable pub run : ℕ → Receiver → List ℕ → List Call → Ran
+run most r m [] = record { answers = []; messages = []; receiver = r; memory = m }
+run most r m (c ∷ calls) = joined (called most r m c) (run most (called most r m c .receiver) (called most r m c .memory) calls)
+
+-- a list of packets, given one after the other
+abbrev pub runPackets : ℕ → Receiver → List ℕ → List (List ℕ) → Ran
+runPackets most r m packets = run most r m (map give packets)
+
+-- an answer that says that a body went into this slot
+abbrev pub intoSlot : ℕ → Said → Bool
+intoSlot slot (refused n) = false
+intoSlot slot (held i bytes again) = eqb i slot
+intoSlot slot (done i length again) = eqb i slot
+
+abbrev pub wrote : ℕ → Reply → Bool
+wrote slot (rules said) = intoSlot slot said
+wrote slot (freed n) = false
+
+-- "Its bytes stay until a later call writes there": none of these did
+abbrev pub untouched : ℕ → List Reply → Bool
+untouched slot [] = true
+untouched slot (a ∷ answers) = not (wrote slot a) && untouched slot answers

@@ -1,0 +1,4 @@
+// A message that a receiver has put together, read out of the message memory.
+mod part;
+
+pub use part::message;

@@ -1,0 +1,160 @@
+-- The laws of one packet given to the message rules, in any state, with any memory.
+-- Assumes nothing.
+use mathlib.Core.Path.{_≡_, refl, ap, sym, _∙_}
+use mathlib.Core.Bool.{Bool, true, false}
+use mathlib.Core.List.{List}
+use Prim.Native.Nat.{ℕ, _+_, _*_, _≤_, _<_}
+use native.Mathlib.Omega.{arith}
+use lib.Dec.{lit<}
+use lib.ListN.{length}
+use Rattle.octets.specs.Bytes.{laid}
+use Rattle.octets.proofs.Laid.{laid-length}
+use Rattle.mctp.specs.Packet.{bodyOf}
+use Rattle.mctp.specs.Key.{keyOf}
+use Rattle.mctp.proofs.Refusals.{number-injective}
+use Rattle.slots.specs.declared.state.SlotState.{SlotState}
+use Rattle.slots.specs.declared.state.SlotState.the-variants.{Free, Gathering}
+use Rattle.slots.specs.declared.state.Receiver.{Receiver}
+use Rattle.slots.specs.State.{rightState}
+use Rattle.slots.specs.Changes.{withState}
+use Rattle.slots.proofs.States.{right-of, right-holds, with-right, slot-other}
+use Rattle.slots.proofs.Kept.{free-right}
+use Rattle.receiver.specs.declared.rules.Plan.{Plan}
+use Rattle.receiver.specs.declared.rules.Plan.the-variants.{Refuse, Release, Put}
+use Rattle.receiver.specs.declared.giving.Answer.{Answer}
+use Rattle.receiver.specs.declared.giving.Answer.the-variants.{Refused, Held, Done}
+use Rattle.receiver.specs.declared.giving.Given.{Given}
+use Rattle.receiver.specs.Rules.{Decision, refuse, release, put, planned}
+use Rattle.receiver.specs.Decision.{decided}
+use Rattle.receiver.specs.Possible.{Possible}
+use Rattle.receiver.specs.Effects.{Unchanged, SlotFreed, OneSlot}
+use Rattle.receiver.specs.Step.{Said, refused, held, done, says, Left, left, answerOf, carried, stepOf}
+use Rattle.receiver.proofs.Laid.{laid-before, laid-behind}
+use Rattle.receiver.proofs.Decided.{Fits, every-decision}
+
+-- giving a packet is the decision carried out
+pub step-is-decision : (most : ℕ) (r : Receiver) (m p : List ℕ) → stepOf most r m p ≡ carried r m p (decided most r (length m) p)
+unfolding stepOf
+step-is-decision most r m p = refl
+
+-- and so is what any plan allowed by the contract of `decide` says
+pub step-is-plan : (most : ℕ) (r : Receiver) (m p : List ℕ) (plan : Plan) → planned plan ≡ decided most r (length m) p → stepOf most r m p ≡ carried r m p (planned plan)
+step-is-plan most r m p plan e = step-is-decision most r m p ∙ ap (carried r m p) (sym e)
+
+-- every decision can be carried out
+pub decision-possible : (most : ℕ) (r : Receiver) (size : ℕ) (p : List ℕ) → Possible p (decided most r size p)
+decision-possible most r size p =
+    every-decision most r size p (Possible p)
+    (λ n low high. (low, high))
+    (λ e i n h low high k. (h, low, high))
+    (λ e s i at again then f. (f .slot, omega (arith, f .size), f .place))
+
+-- a right state stays right
+pub step-right : (most : ℕ) (r : Receiver) (m p : List ℕ) → rightState most r ≡ true → rightState most (stepOf most r m p .receiver) ≡ true
+unfolding stepOf
+step-right most r m p e =
+    every-decision most r (length m) p (λ d. rightState most (carried r m p d .receiver) ≡ true)
+    (λ n low high. e)
+    (λ e i n h low high k. free-right most r i h e)
+    (λ e s i at again then f. right-holds most (withState r i then) (with-right most r (right-of most r e) i then (f .slot) (f .right) (f .alone)))
+
+-- a body that is put is not refused
+put-answers : (then : SlotState) (i b : ℕ) (again : Bool) (n : ℕ) → answerOf then i b again ≡ refused n → ⊥
+put-answers Free i b again n s =
+    let z : _≡_ {A = ℕ} 0 1 = cc in
+    omega arith
+put-answers (Gathering k q u h) i b again n s =
+    let z : _≡_ {A = ℕ} 0 1 = cc in
+    omega arith
+
+-- refused with anything but 20, 21, 22: receiver and memory unchanged
+pub refused-unchanged : (most : ℕ) (r : Receiver) (m p : List ℕ) (n : ℕ) → stepOf most r m p .said ≡ refused n
+    → (n ≡ 20 → ⊥) → (n ≡ 21 → ⊥) → (n ≡ 22 → ⊥) → Unchanged r m (stepOf most r m p .receiver) (stepOf most r m p .memory)
+unfolding stepOf
+refused-unchanged most r m p n e n20 n21 n22 =
+    every-decision most r (length m) p (λ d. carried r m p d .said ≡ refused n → Unchanged r m (carried r m p d .receiver) (carried r m p d .memory))
+    (λ k low high s. record { setup = refl; slots = refl; memory = refl })
+    (λ x i k h low high c s.
+    let same : k ≡ n = cc in
+    absurd (none k same low high))
+    (λ x y i at again then f s. absurd (put-answers then i (at + length (bodyOf p)) again n s))
+    e
+  where
+    none : (k : ℕ) → k ≡ n → 20 ≤ k → k ≤ 22 → ⊥
+    none k same low high = omega arith
+
+-- refused with 20, 21, 22: exactly the slot that has the packet's key becomes free, memory unchanged
+pub refused-freed : (most : ℕ) (r : Receiver) (m p : List ℕ) (n : ℕ) → stepOf most r m p .said ≡ refused n → 20 ≤ n
+    → SlotFreed (keyOf p) r m (stepOf most r m p .receiver) (stepOf most r m p .memory)
+unfolding stepOf
+refused-freed most r m p n e twenty =
+    every-decision most r (length m) p (λ d. carried r m p d .said ≡ refused n → SlotFreed (keyOf p) r m (carried r m p d .receiver) (carried r m p d .memory))
+    (λ k low high s.
+    let same : k ≡ n = cc in
+    absurd (none k same high))
+    (λ x i k h low high c s. record { slot = i; one-of-four = h; has-the-key = c; setup = refl; slots = refl; memory = refl })
+    (λ x y i at again then f s. absurd (put-answers then i (at + length (bodyOf p)) again n s))
+    e
+  where
+    none : (k : ℕ) → k ≡ n → k ≤ 19 → ⊥
+    none k same high = omega arith
+
+-- a packet changes at most one slot and that slot's 1,024 bytes
+pub one-slot : (most : ℕ) (r : Receiver) (m p : List ℕ) → OneSlot r m (stepOf most r m p .receiver) (stepOf most r m p .memory)
+unfolding stepOf
+one-slot most r m p =
+    every-decision most r (length m) p (λ d. OneSlot r m (carried r m p d .receiver) (carried r m p d .memory))
+    (λ n low high. record { slot = 0; one-of-four = lit< tt; setup = refl; others = λ j d. refl; size = refl; bytes-before = λ k h. refl; bytes-behind = λ k h. refl })
+    (λ x i n h low high c.
+    record { slot = i; one-of-four = h; setup = refl; others = λ j d. slot-other (r .slots) i j Free d; size = refl; bytes-before = λ k b. refl; bytes-behind = λ k b. refl })
+    (λ x y i at again then f.
+    record {
+      slot = i;
+      one-of-four = f .slot;
+      setup = refl;
+      others = λ j d. slot-other (r .slots) i j then d;
+      size = laid-length m (1024 * i + at) (bodyOf p);
+      bytes-before = λ k b. laid-before m (1024 * i + at) (bodyOf p) k (omega arith);
+      bytes-behind = λ k b. laid-behind m (1024 * i + at) (bodyOf p) k (omega (arith, f .place));
+    })
+
+zero-not-one : _≡_ {A = ℕ} 0 1 → ⊥
+zero-not-one z = omega arith
+
+-- a plan and an answer are told by their number and values
+planned-injective : (a b : Plan) → planned a ≡ planned b → a ≡ b
+planned-injective (Refuse r) (Refuse s) e = ap Refuse (number-injective r s (cc))
+planned-injective (Refuse r) (Release j s) e = absurd (zero-not-one (cc))
+planned-injective (Refuse r) (Put j b g t) e = absurd (zero-not-one (cc))
+planned-injective (Release i r) (Refuse s) e = absurd (zero-not-one (cc))
+planned-injective (Release i r) (Release j s) e =
+    let slot : i ≡ j = cc in
+    let refusal = number-injective r s (cc) in
+    λ k. Release (slot k) (refusal k)
+planned-injective (Release i r) (Put j b g t) e = absurd (zero-not-one (cc))
+planned-injective (Put i a f s) (Refuse t) e = absurd (zero-not-one (cc))
+planned-injective (Put i a f s) (Release j t) e = absurd (zero-not-one (cc))
+planned-injective (Put i a f s) (Put j b g t) e = cc
+
+says-injective : (a b : Answer) → says a ≡ says b → a ≡ b
+says-injective (Refused r) (Refused s) e = ap Refused (number-injective r s (cc))
+says-injective (Refused r) (Held j b g) e = absurd (zero-not-one (cc))
+says-injective (Refused r) (Done j b g) e = absurd (zero-not-one (cc))
+says-injective (Held i a f) (Refused s) e = absurd (zero-not-one (cc))
+says-injective (Held i a f) (Held j b g) e = cc
+says-injective (Held i a f) (Done j b g) e = absurd (zero-not-one (cc))
+says-injective (Done i a f) (Refused s) e = absurd (zero-not-one (cc))
+says-injective (Done i a f) (Held j b g) e = absurd (zero-not-one (cc))
+says-injective (Done i a f) (Done j b g) e = cc
+
+-- two results that the contract of `decide` allows are equal
+pub decide-determined : (a b : Plan) (d : Decision) → planned a ≡ d → planned b ≡ d → a ≡ b
+decide-determined a b d p q = planned-injective a b (p ∙ sym q)
+
+-- two results that the contract of `give` allows are equal, and so are the bytes of the two memories
+pub give-determined : (a b : Given) (m n : List ℕ) (l : Left) → left a m ≡ l → left b n ≡ l → (a ≡ b) × (m ≡ n)
+give-determined a b m n l p q =
+    let e = p ∙ sym q in
+    let answer = says-injective (a .answer) (b .answer) (ap (λ (x : Left). x .said) e) in
+    let receiver = ap (λ (x : Left). x .receiver) e in
+    ((λ i. record { answer = answer i; receiver = receiver i }), ap (λ (x : Left). x .memory) e)

@@ -1,0 +1,4 @@
+pub mod States
+pub mod Found
+pub mod Numbers
+pub mod Kept

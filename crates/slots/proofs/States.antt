@@ -1,0 +1,152 @@
+-- A right state taken apart into facts, one for each slot and each pair, and put together from them.
+-- Assumes nothing.
+use mathlib.Core.Path.{_≡_, refl, ap, sym, _∙_}
+use mathlib.Core.Bool.{Bool, true, false, not, _&&_, Bool·beq}
+use mathlib.Core.List.{List}
+use mathlib.Core.Logic.{dite}
+use Prim.Native.Nat.{ℕ, zero, suc, _≤_, _<_}
+use native.Mathlib.Decide.{ℕ-discrete}
+use native.Mathlib.Omega.{arith}
+use lib.Dec.{leb, eqb, lit<}
+use lib.ListN.{length, set, getD, length-set}
+use lib.Seq.{getD-set-same, getD-set-other}
+use borrow.Author.Tests.{eqb-true, eq-eqb, not-true}
+use Rattle.octets.proofs.Choice.{both, within-bounds}
+use Rattle.mctp.specs.declared.packet.Key.{Key}
+use Rattle.mctp.specs.Key.{sameKey}
+use Rattle.mctp.specs.Packet.{mostRight}
+use Rattle.mctp.proofs.Keys.{same-key-refl, same-key-true}
+use Rattle.slots.specs.declared.state.Slot.{Slot}
+use Rattle.slots.specs.declared.state.SlotState.{SlotState}
+use Rattle.slots.specs.declared.state.SlotState.the-variants.{Free, Gathering}
+use Rattle.slots.specs.declared.state.Receiver.{Receiver}
+use Rattle.slots.specs.Setup.{rightSetup}
+use Rattle.slots.specs.Slots.{slotAt, hasKey}
+use Rattle.slots.specs.State.{rightSlot, clash, fourRight, fourApart, rightState}
+use Rattle.slots.specs.Changes.{withState}
+
+-- document 01's list: the set-up, four slots, each slot, each pair
+pub record Right (most : ℕ) (r : Receiver) : Type 0 where
+  pub most-right : mostRight most ≡ true
+  pub setup : rightSetup (r .setup) ≡ true
+  pub four : length (r .slots) ≡ 4
+  pub each : (i : ℕ) → i < 4 → rightSlot most (r .setup) (slotAt (r .slots) i) ≡ true
+  pub apart : (i j : ℕ) → i < 4 → j < 4 → (i ≡ j → ⊥) → clash (slotAt (r .slots) i) (slotAt (r .slots) j) ≡ false
+
+-- what holds of the four slots holds of each
+four-cases : (P : ℕ → Type 0) → P 0 → P 1 → P 2 → P 3 → (i : ℕ) → i < 4 → P i
+four-cases P a b c d zero h = a
+four-cases P a b c d (suc zero) h = b
+four-cases P a b c d (suc (suc zero)) h = c
+four-cases P a b c d (suc (suc (suc zero))) h = d
+four-cases P a b c d (suc (suc (suc (suc i)))) h =
+    let none : ⊥ = omega arith in
+    absurd none
+
+-- a slot that has a key, and one that clashes, by what they hold
+pub has-key-true : (k : Key) (s : SlotState) → hasKey k s ≡ true → (q u h : ℕ) → (j : Key) → s ≡ Gathering j q u h → j ≡ k
+has-key-true k s e q u h j g = same-key-true j k (ap (hasKey k) (sym g) ∙ e)
+
+same-key-sym : (j k : Key) → sameKey j k ≡ sameKey k j
+same-key-sym j k = by-true (sameKey j k) (sameKey k j) (λ e. ap (λ (i : Key). sameKey i j) (sym (same-key-true j k e)) ∙ same-key-refl j) (λ e. ap (λ (i : Key). sameKey i k) (sym (same-key-true k j e)) ∙ same-key-refl k)
+  where
+    by-true : (a b : Bool) → (a ≡ true → b ≡ true) → (b ≡ true → a ≡ true) → a ≡ b
+    by-true true b f g = sym (f refl)
+    by-true false true f g = g refl
+    by-true false false f g = refl
+
+pub clash-sym : (a b : SlotState) → clash a b ≡ clash b a
+unfolding clash
+clash-sym Free Free = refl
+clash-sym Free (Gathering k q u h) = refl
+clash-sym (Gathering k q u h) Free = refl
+clash-sym (Gathering k q u h) (Gathering k₂ q₂ u₂ h₂) = same-key-sym k₂ k
+
+pub right-of : (most : ℕ) (r : Receiver) → rightState most r ≡ true → Right most r
+unfolding rightState
+right-of most r e =
+    let l = r .slots in
+    let a = both _ _ e in
+    let b = both _ _ (a .0) in
+    let c = both _ _ (b .0) in
+    let d = both _ _ (c .0) in
+    let third = both _ _ (c .1) in
+    let second = both _ _ (third .0) in
+    let first = both _ _ (second .0) in
+    let cd = both _ _ (b .1) in
+    let bd = both _ _ (cd .0) in
+    let bc = both _ _ (bd .0) in
+    let ad = both _ _ (bc .0) in
+    let ab = both _ _ (ad .0) in
+    let turned : (i j : ℕ) → not (clash (slotAt l i) (slotAt l j)) ≡ true → clash (slotAt l j) (slotAt l i) ≡ false = λ i j t. clash-sym _ _ ∙ not-true _ t in
+    record {
+      most-right = d .0;
+      setup = d .1;
+      four = eqb-true _ _ (a .1);
+      each = four-cases (λ i. rightSlot most (r .setup) (slotAt l i) ≡ true) (first .0) (first .1) (second .1) (third .1);
+      apart = λ i j hi hj. four-cases (λ (i : ℕ). (j : ℕ) → j < 4 → (i ≡ j → ⊥) → clash (slotAt l i) (slotAt l j) ≡ false)
+          (four-cases (λ (j : ℕ). (0 ≡ j → ⊥) → clash (slotAt l 0) (slotAt l j) ≡ false) (λ n. absurd (n refl)) (λ n. not-true _ (ab .0)) (λ n. not-true _ (ab .1)) (λ n. not-true _ (ad .1)))
+          (four-cases (λ (j : ℕ). (1 ≡ j → ⊥) → clash (slotAt l 1) (slotAt l j) ≡ false) (λ n. turned 0 1 (ab .0)) (λ n. absurd (n refl)) (λ n. not-true _ (bc .1)) (λ n. not-true _ (bd .1)))
+          (four-cases (λ (j : ℕ). (2 ≡ j → ⊥) → clash (slotAt l 2) (slotAt l j) ≡ false) (λ n. turned 0 2 (ab .1)) (λ n. turned 1 2 (bc .1)) (λ n. absurd (n refl)) (λ n. not-true _ (cd .1)))
+          (four-cases (λ (j : ℕ). (3 ≡ j → ⊥) → clash (slotAt l 3) (slotAt l j) ≡ false) (λ n. turned 0 3 (ad .1)) (λ n. turned 1 3 (bd .1)) (λ n. turned 2 3 (cd .1)) (λ n. absurd (n refl)))
+          i hi j hj;
+    }
+
+pub right-holds : (most : ℕ) (r : Receiver) → Right most r → rightState most r ≡ true
+unfolding rightState
+right-holds most r R =
+    let free : (i j : ℕ) → i < 4 → j < 4 → i < j → clash (slotAt (r .slots) i) (slotAt (r .slots) j) ≡ false = λ i j hi hj h. R .apart i j hi hj (λ e. omega arith) in
+    rw (
+      R .most-right,
+      R .setup,
+      R .each 0 (lit< tt),
+      R .each 1 (lit< tt),
+      R .each 2 (lit< tt),
+      R .each 3 (lit< tt),
+      free 0 1 (lit< tt) (lit< tt) (lit< tt),
+      free 0 2 (lit< tt) (lit< tt) (lit< tt),
+      free 0 3 (lit< tt) (lit< tt) (lit< tt),
+      free 1 2 (lit< tt) (lit< tt) (lit< tt),
+      free 1 3 (lit< tt) (lit< tt) (lit< tt),
+      free 2 3 (lit< tt) (lit< tt) (lit< tt),
+      eq-eqb _ _ (R .four),
+    )
+
+-- the largest body of a right state
+pub most-bounds : (most : ℕ) (r : Receiver) → rightState most r ≡ true → (64 ≤ most) × (most ≤ 246)
+most-bounds most r e = within-bounds 64 246 most (right-of most r e .most-right)
+
+-- a slot set anew: it, and the others
+pub slot-same : (l : List Slot) (i : ℕ) (s : SlotState) → i < length l → slotAt (set l i (record { state = s })) i ≡ s
+slot-same l i s h = ap (λ (x : Slot). x .state) (getD-set-same l i (record { state = s }) (record { state = Free }) h)
+
+pub slot-other : (l : List Slot) (i j : ℕ) (s : SlotState) → (j ≡ i → ⊥) → slotAt (set l i (record { state = s })) j ≡ slotAt l j
+slot-other l i j s n = ap (λ (x : Slot). x .state) (getD-set-other l i j (record { state = s }) (record { state = Free }) n)
+
+-- a right state stays right where one slot gets a right state whose key no other slot has
+module _ (most : ℕ) (r : Receiver) (R : Right most r) (i : ℕ) (s : SlotState) (h : i < 4) (right : rightSlot most (r .setup) s ≡ true)
+    (alone : (j : ℕ) → j < 4 → (i ≡ j → ⊥) → clash s (slotAt (r .slots) j) ≡ false) where
+  in-range : i < length (r .slots)
+  in-range = omega (arith, R .four)
+
+  at-same : (j : ℕ) → i ≡ j → slotAt (withState r i s .slots) j ≡ s
+  at-same j e = ap (λ (k : ℕ). slotAt (withState r i s .slots) k) (sym e) ∙ slot-same (r .slots) i s in-range
+
+  at-other : (j : ℕ) → (i ≡ j → ⊥) → slotAt (withState r i s .slots) j ≡ slotAt (r .slots) j
+  at-other j n = slot-other (r .slots) i j s (λ e. n (sym e))
+
+  pub with-right : Right most (withState r i s)
+  with-right =
+      record {
+        most-right = R .most-right;
+        setup = R .setup;
+        four = length-set (r .slots) i (record { state = s }) ∙ R .four;
+        each = λ j hj. dite (ℕ-discrete i j) (λ e. rw (at-same j e) right) (λ n. rw (at-other j n) (R .each j hj));
+        apart = λ j k hj hk n.
+            dite (ℕ-discrete i j)
+            (λ ej. rw (at-same j ej, at-other k (λ ek. n (sym ej ∙ ek))) (alone k hk (λ ek. n (sym ej ∙ ek))))
+            (λ nj.
+            dite (ℕ-discrete i k)
+            (λ ek. rw (at-other j nj, at-same k ek) (clash-sym (slotAt (r .slots) j) s ∙ alone j hj nj))
+            (λ nk. rw (at-other j nj, at-other k nk) (R .apart j k hj hk n)));
+      }

@@ -1,0 +1,24 @@
+-- `slots::change::free_within` meets its contract.
+-- Assumes nothing.
+use Rattle.slots.specs.Changes.{freedOf}
+use mathlib.Core.Path.{sym, _∙_}
+use borrow.Author.Needs.{needs}
+use Rattle.slots.proofs.change.free_within.Statement.{statement}
+use Rattle.slots.proofs.change.free_within.Tie as tie
+
+right-within-requires : tie.Need-right-within-requires
+right-within-requires c κs = search needs
+
+with-state-requires : tie.Need-with-state-requires
+with-state-requires c κs = search needs
+
+returns : tie.Need-returns
+unfolding freedOf
+returns c = rw (sym (c .before .before .right-within .ensures), c .before .if1 .taken, c .with-state .ensures)
+
+returns-2 : tie.Need-returns-2
+unfolding freedOf
+returns-2 c = rw (sym (c .before .right-within .ensures), c .if1 .left)
+
+pub free-within-spec : {M : Type 1} → statement M
+free-within-spec = tie.close (tie.spec right-within-requires with-state-requires returns returns-2)

@@ -1,0 +1,4 @@
+pub mod Setup
+pub mod Slots
+pub mod State
+pub mod Changes

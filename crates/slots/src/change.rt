@@ -1,0 +1,82 @@
+// The changes of a state: set-up, a slot's state set anew, a slot freed.
+use crate::check;
+use crate::state::Receiver;
+use crate::state::Setup;
+use crate::state::Slot;
+use crate::state::SlotState;
+use mctp::Eid;
+use mctp::Refusal;
+ghost use mathlib.Core.Path.{_≡_};
+ghost use Rattle.slots.specs.Changes.{fresh, withState, keeps, setUpOf, freedOf};
+
+pub enum Outcome {
+    Good,
+    Refused(Refusal),
+}
+
+pub struct Changed {
+    pub outcome: Outcome,
+    pub receiver: Receiver,
+}
+
+fn fresh_of(setup: Setup) -> Receiver
+    ensures { λ r. ⌜ r ≡ fresh setup ⌝ }
+{
+    let free = Slot {
+        state: SlotState::Free,
+    };
+    Receiver {
+        setup: setup,
+        slots: [free, free, free, free],
+    }
+}
+
+// A fresh receiver with this own EID; refused, one with the null EID stands beside the refusal.
+pub fn set_up(own: Eid) -> Changed
+    ensures { λ r. ⌜ keeps r ≡ setUpOf (record { own = own }) ⌝ }
+{
+    if own.is_endpoint() {
+        return Changed {
+            outcome: Outcome::Good,
+            receiver: fresh_of(Setup { own: own }),
+        };
+    }
+    Changed {
+        outcome: Outcome::Refused(Refusal::Setup),
+        receiver: fresh_of(Setup { own: Eid::NULL }),
+    }
+}
+
+// The only write of a slot.
+pub fn with_state(receiver: Receiver, slot: usize, state: SlotState) -> Receiver
+    ensures { λ r. ⌜ r ≡ withState receiver slot state ⌝ }
+{
+    if slot < 4 {
+        let mut next = receiver;
+        next.slots[slot] = Slot { state: state };
+        return next;
+    }
+    receiver
+}
+
+fn free_within(most: usize, receiver: Receiver, slot: usize) -> Changed
+    ensures { λ r. ⌜ keeps r ≡ freedOf most receiver slot ⌝ }
+{
+    if check::right_within(most, receiver) & (slot < 4) {
+        return Changed {
+            outcome: Outcome::Good,
+            receiver: with_state(receiver, slot, SlotState::Free),
+        };
+    }
+    Changed {
+        outcome: Outcome::Refused(Refusal::Setup),
+        receiver: receiver,
+    }
+}
+
+// "A separate call frees slot 0 to 3 (any other number: 1) and leaves the memory."
+pub fn free(receiver: Receiver, slot: usize) -> Changed
+    ensures { λ r. ⌜ keeps r ≡ freedOf 64 receiver slot ⌝ }
+{
+    free_within(mctp::LARGEST_BODY, receiver, slot)
+}

@@ -1,0 +1,72 @@
+// A slot found: by its number, by its key, or the lowest that is free. 4 stands for none.
+use crate::check::has_key;
+use crate::state::Receiver;
+use crate::state::SlotState;
+use crate::state::state_of;
+use mctp::Key;
+ghost use mathlib.Core.Path.{_≡_};
+ghost use Rattle.slots.specs.Slots.{slotAt, isFree, slotOf, lowestFree, firstTrue};
+
+// The state of a slot; past the last one there is nothing, and it reads as free.
+pub fn state_at(receiver: Receiver, slot: usize) -> SlotState
+    ensures { λ r. ⌜ r ≡ slotAt (receiver .slots) slot ⌝ }
+{
+    let slots = receiver.slots;
+    if slot < 4 {
+        return state_of(slots[slot]);
+    }
+    SlotState::Free
+}
+
+fn is_free(state: SlotState) -> bool
+    ensures { λ r. ⌜ r ≡ isFree state ⌝ }
+{
+    match state {
+        SlotState::Free => true,
+        SlotState::Gathering {
+            key: _,
+            sequence: _,
+            unit: _,
+            held: _,
+        } => false,
+    }
+}
+
+fn first_true(a: bool, b: bool, c: bool, d: bool) -> u8
+    ensures { λ r. ⌜ r ≡ firstTrue a b c d ⌝ }
+{
+    if a {
+        return 0;
+    }
+    if b {
+        return 1;
+    }
+    if c {
+        return 2;
+    }
+    if d { 3 } else { 4 }
+}
+
+pub fn slot_of(receiver: Receiver, key: Key) -> u8
+    ensures { λ r. ⌜ r ≡ slotOf (receiver .slots) key ⌝ }
+{
+    let slots = receiver.slots;
+    first_true(
+        has_key(key, state_of(slots[0])),
+        has_key(key, state_of(slots[1])),
+        has_key(key, state_of(slots[2])),
+        has_key(key, state_of(slots[3])),
+    )
+}
+
+pub fn lowest_free(receiver: Receiver) -> u8
+    ensures { λ r. ⌜ r ≡ lowestFree (receiver .slots) 0 4 ⌝ }
+{
+    let slots = receiver.slots;
+    first_true(
+        is_free(state_of(slots[0])),
+        is_free(state_of(slots[1])),
+        is_free(state_of(slots[2])),
+        is_free(state_of(slots[3])),
+    )
+}

@@ -1,0 +1,21 @@
+// The receiver's state: its set-up, its four slots, what makes them right, and a slot freed.
+mod change;
+mod check;
+mod find;
+mod state;
+
+pub use change::Changed;
+pub use change::Outcome;
+pub use change::free;
+pub use change::set_up;
+pub use change::with_state;
+pub use check::ours;
+pub use check::right;
+pub use check::right_within;
+pub use find::lowest_free;
+pub use find::slot_of;
+pub use find::state_at;
+pub use state::Receiver;
+pub use state::Setup;
+pub use state::Slot;
+pub use state::SlotState;
