@@ -1,0 +1,8 @@
+pub mod Records
+pub mod Walks
+pub mod Laid
+pub mod Decimals
+pub mod Laying
+pub mod Lines
+pub mod Determined
+pub mod Samples

@@ -1,0 +1,56 @@
+-- `records::line::put_last_line` meets its contract.
+-- Assumes nothing.
+use native.Mathlib.Omega.{arith}
+use Rattle.records.specs.Line.{lastLine}
+use Rattle.records.proofs.Lines.{last-size, put-placed, put-no-room}
+use borrow.Author.Needs.{needs}
+use Rattle.records.proofs.line.put_last_line.Statement.{statement}
+use Rattle.records.proofs.line.put_last_line.Tie as tie
+
+returns : tie.Need-returns
+returns c = put-no-room _ _ _ (omega arith)
+
+pair-size-requires : tie.Need-pair-size-requires
+pair-size-requires c κs = search needs
+
+sub-if2 : tie.Need-sub-if2
+sub-if2 c = search needs
+
+slice-aggregate-lay-pair : tie.Need-slice-aggregate-lay-pair
+slice-aggregate-lay-pair c = search needs
+
+slice-aggregate-lay-pair-2 : tie.Need-slice-aggregate-lay-pair-2
+slice-aggregate-lay-pair-2 c = search needs
+
+lay-pair-requires : tie.Need-lay-pair-requires
+lay-pair-requires c κs = search needs
+
+same-length : tie.Need-same-length
+same-length c = search needs
+
+returns-2 : tie.Need-returns-2
+unfolding lastLine
+returns-2 c =
+    let a = c .before .before .before .before .before .before .before .before .before .before .args in
+    let size = last-size (a .arrivals) (a .packets) in
+    put-placed (a .out .now) (a .at) (lastLine (a .arrivals) (a .packets)) (omega arith) (c .before .before .lay-pair .ensures)
+
+returns-3 : tie.Need-returns-3
+returns-3 c =
+    let a = c .before .before .before .before .args in
+    let size = last-size (a .arrivals) (a .packets) in
+    put-no-room _ _ _ (omega arith)
+
+pub put-last-line-spec : {M : Type 1} → statement M
+put-last-line-spec =
+    tie.close
+    (tie.spec
+    returns
+    pair-size-requires
+    sub-if2
+    slice-aggregate-lay-pair
+    slice-aggregate-lay-pair-2
+    lay-pair-requires
+    same-length
+    returns-2
+    returns-3)

@@ -1,0 +1,43 @@
+-- `records::line::put_line` meets its contract.
+-- Assumes nothing.
+use lib.ListN.{length}
+use Rattle.records.specs.Line.{lineBytes}
+use native.Mathlib.Omega.{arith}
+use mathlib.Core.Path.{sym, _∙_}
+use borrow.Author.Tests.{leb-true, leb-false}
+use Rattle.records.proofs.Lines.{put-placed, put-no-room}
+use borrow.Author.Needs.{needs}
+use Rattle.records.proofs.line.put_line.Statement.{statement}
+use Rattle.records.proofs.line.put_line.Tie as tie
+
+returns : tie.Need-returns
+returns c = put-no-room _ _ _ (omega arith)
+
+sub-fits : tie.Need-sub-fits
+sub-fits c = search needs
+
+fits-requires : tie.Need-fits-requires
+fits-requires c κs = search needs
+
+lay-line-requires : tie.Need-lay-line-requires
+lay-line-requires c κs = search needs
+
+same-length : tie.Need-same-length
+same-length c = search needs
+
+returns-2 : tie.Need-returns-2
+returns-2 c =
+    let a = c .before .before .before .before .before .before .before .before .args in
+    let room = leb-true (length (lineBytes (a .number) (a .line))) _ (sym (c .before .before .before .before .before .fits2 .ensures) ∙ c .before .before .before .before .if2 .taken) in
+    put-placed _ _ _ (omega arith) (c .before .before .lay-line .ensures)
+
+returns-3 : tie.Need-returns-3
+returns-3 c =
+    let a = c .before .before .before .before .args in
+    let room = leb-false (length (lineBytes (a .number) (a .line))) _ (sym (c .before .fits2 .ensures) ∙ c .if2 .left) in
+    put-no-room _ _ _ (omega arith)
+
+pub put-line-spec : {M : Type 1} → statement M
+put-line-spec =
+    tie.close
+    (tie.spec returns sub-fits fits-requires lay-line-requires same-length returns-2 returns-3)
