@@ -1,0 +1,164 @@
+-- What is known of arrivals on each path, from the carriers' and the message rules' own laws.
+-- Assumes nothing.
+use mathlib.Core.Path.{_≡_, refl, ap, sym, subst, _∙_}
+use mathlib.Core.Bool.{Bool, true}
+use mathlib.Core.List.{List, [], _∷_, _++_}
+use Prim.Native.Nat.{ℕ, _+_, _-_, _≤_}
+use native.Mathlib.Omega.{arith}
+use borrow.Author.Tests.{eq-eqb}
+use lib.ListN.{length, take, drop, replicate}
+use lib.Seq.{take-at}
+use Rattle.octets.specs.Bytes.{Below, fronted}
+use Rattle.octets.specs.Words.{highFirst, wordBytes}
+use Rattle.octets.proofs.Below.{below-append, below-take, below-drop, below-zeros, below-word}
+use Rattle.octets.proofs.Choice.{within-bounds}
+use Rattle.mctp.specs.Packet.{packetSize}
+use Rattle.mctp.specs.Key.{keyOf}
+use Rattle.smbus.specs.Frame.{frameOf}
+use Rattle.smbus.specs.Reading as smbus
+use Rattle.smbus.specs.Writing as frames
+use Rattle.smbus.proofs.Answering.{good-packet, good-source}
+use Rattle.smbus.proofs.Made.{good-frame}
+use Rattle.smbus.proofs.Octets.{frame-bytes}
+use Rattle.smbus.proofs.Placing.{fits}
+use Rattle.smbus.proofs.Refusing.{good}
+use Rattle.smbus.proofs.RoundTrip as smbus-back
+use Rattle.pcc.specs.Region.{regionFor}
+use Rattle.pcc.specs.Reading as pcc
+use Rattle.pcc.specs.Writing as regions
+use Rattle.pcc.proofs.Back as pcc-back
+use Rattle.pcc.proofs.Bytes.{every-bytes}
+use Rattle.mmbi.specs.Interface.{stateOf, mayRead}
+use Rattle.mmbi.specs.declared.interface.Flags.{Flags}
+use Rattle.ring.specs.Numbers.{lengthRight}
+use Rattle.ring.specs.Turn.{turn, stored}
+use Rattle.ring.specs.Packet.{paddingFor, headerFor, wholeFor, ringBytes}
+use Rattle.ring.specs.Runs.{arrivalRing}
+use Rattle.ring.specs.Reading as taking
+use Rattle.ring.specs.Writing as putting
+use Rattle.ring.specs.declared.reading.Taken.the-variants as case
+use Rattle.ring.proofs.RoundTrip as ring-round
+use Rattle.slots.specs.declared.state.Receiver.{Receiver}
+use Rattle.receiver.specs.Effects.{Unchanged, SlotFreed}
+use Rattle.receiver.specs.Step.{refused, stepOf}
+use Rattle.receiver.proofs.Laws.{refused-unchanged, refused-freed}
+use Rattle.rack.specs.declared.answer.Known.{Known}
+use Rattle.rack.specs.declared.answer.Known.the-variants.{Source, Notify, Next}
+use Rattle.rack.specs.Arrivals.{Arrival, Carried, Without, packet, none, carries, smbusCarries, pccCarries, ringCarries}
+use Rattle.rack.specs.Answers.{Told, given, nothing, Left, arrivedOf}
+use Rattle.rack.proofs.Carriers.{ring-carries, ring-front}
+
+module _ (most : ℕ) (r : Receiver) (m : List ℕ) where
+  pub none-leaves-all : (a : Arrival) (why : Without) → carries most a ≡ none why → arrivedOf most r m (carries most a) ≡ record { told = nothing why; receiver = r; memory = m }
+  none-leaves-all a why e = ap (arrivedOf most r m) e
+
+  pub rules-refused : (known : Known) (n : ℕ) (c : Carried) → arrivedOf most r m c .told ≡ given known (refused n)
+      → (n ≡ 20 → ⊥) → (n ≡ 21 → ⊥) → (n ≡ 22 → ⊥) → Unchanged r m (arrivedOf most r m c .receiver) (arrivedOf most r m c .memory)
+  rules-refused known n (packet p k) e n20 n21 n22 = refused-unchanged most r m p n (cc) n20 n21 n22
+  rules-refused known n (none why) e n20 n21 n22 = record { setup = refl; slots = refl; memory = refl }
+
+  pub rules-freed : (p : List ℕ) (known : Known) (n : ℕ) (c : Carried) → c ≡ packet p known → arrivedOf most r m c .told ≡ given known (refused n)
+      → 20 ≤ n → SlotFreed (keyOf p) r m (arrivedOf most r m c .receiver) (arrivedOf most r m c .memory)
+  rules-freed p known n c is e twenty =
+      subst
+      (λ (d : Carried). arrivedOf most r m d .told ≡ given known (refused n) → SlotFreed (keyOf p) r m (arrivedOf most r m d .receiver) (arrivedOf most r m d .memory))
+      (sym is)
+      (λ (t : given known (stepOf most r m p .said) ≡ given known (refused n)). refused-freed most r m p n (cc) twenty)
+      e
+
+module _ (most : ℕ) where
+  -- a good frame is the layout of what was read from it
+  pub frame-layout : (frame : List ℕ) (own : ℕ) → smbus.refusalOf most frame own ≡ 0
+      → frame ≡ frameOf own (smbus.sourceAddressOf most frame own) (smbus.packetOf most frame own)
+  frame-layout frame own h =
+      rw (good-packet most frame own h, good-source most frame own h) (good-frame most frame own (good most frame own h))
+
+  -- three facts make an arrival of a frame, and of a region
+  pub smbus-found : (frame : List ℕ) (own : ℕ) (p : List ℕ) (source : ℕ) → smbus.refusalOf most frame own ≡ 0 → smbus.packetOf most frame own ≡ p
+      → smbus.sourceAddressOf most frame own ≡ source → smbusCarries most frame own ≡ packet p (Source source)
+  unfolding smbusCarries
+  smbus-found frame own p source n e a = rw (eq-eqb (smbus.refusalOf most frame own) 0 n, e, a)
+
+  pub pcc-found : (region : List ℕ) (id : ℕ) (p : List ℕ) (notify : Bool) → pcc.refusalOf most region id ≡ 0 → pcc.packetOf most region id ≡ p
+      → pcc.notifyOf most region id ≡ notify → pccCarries most region id ≡ packet p (Notify notify)
+  unfolding pccCarries
+  pcc-found region id p notify n e f = rw (eq-eqb (pcc.refusalOf most region id) 0 n, e, f)
+
+  -- and a reading that leaves the packet at the output's front makes one of a ring
+  pub ring-found : (bytes : List ℕ) (configured : ℕ) (flags : Flags) (read write : ℕ) (p : List ℕ) (next : ℕ) (out : List ℕ) → mayRead (stateOf flags) ≡ true
+      → taking.readOf most bytes configured true read write out ≡ taking.left (taking.packet (length p) next) (fronted out p)
+      → ringCarries most bytes configured flags read write out ≡ packet p (Next next)
+  unfolding fronted
+  ring-found bytes configured flags read write p next out runs e =
+      let told = sym (ap (λ (b : Bool). taking.readOf most bytes configured b read write out) runs ∙ e) in
+      let answer = case.Packet (length p) next in
+      let front = ring-front most bytes configured flags read write out (fronted out p) answer told (length p) next refl in
+      ring-carries most bytes configured flags read write out (fronted out p) answer told answer refl
+      ∙ ap (λ (q : List ℕ). packet q (Next next)) (sym front ∙ take-at p (drop (length p) out) (length p) refl)
+
+  pub frame-back : (out p : List ℕ) (destination source : ℕ) → frames.writeRefusal most (length out) (length p) destination source ≡ 0
+      → smbusCarries most (take (frames.frameSize (length p)) (frames.outputOf most out p destination source)) destination ≡ packet p (Source source)
+  frame-back out p destination source e =
+      let f = fits most (length out) (length p) destination source e in
+      let written = take (frames.frameSize (length p)) (frames.outputOf most out p destination source) in
+      smbus-found written destination p source (smbus-back.back-number most out p destination source f) (smbus-back.back-packet most out p destination source f) (smbus-back.back-source most out p destination source f)
+
+  pub region-back : (region : List ℕ) (id : ℕ) (notify : Bool) (p : List ℕ) → regions.writeRefusal most (length region) id (length p) ≡ 0
+      → pccCarries most (regions.writtenOf most region id notify p) id ≡ packet p (Notify notify)
+  region-back region id notify p e =
+      pcc-found (regions.writtenOf most region id notify p) id p notify (pcc-back.back-number most region id notify p e) (pcc-back.back-packet most region id notify p e) (pcc-back.back-notify most region id notify p e)
+
+  pub ring-back : (bytes : List ℕ) (configured : ℕ) (running : Bool) (read write : ℕ) (p : List ℕ) (next : ℕ) (flags : Flags) (out : List ℕ)
+      → putting.writeOf most bytes configured running read write p .says ≡ putting.written next → mayRead (stateOf flags) ≡ true → 4 + most ≤ length out
+      → ringCarries most (putting.writeOf most bytes configured running read write p .ring) configured flags write next out ≡ packet p (Next next)
+  ring-back bytes configured running read write p next flags out e runs room =
+      ring-found (putting.writeOf most bytes configured running read write p .ring) configured flags write next p next out runs
+      (ring-round.round-trip most bytes configured running read write p next out e room)
+
+module _ (p : List ℕ) where
+  pub every-frame : (destination source : ℕ) → Below 256 p → packetSize 64 (length p) ≡ true → destination ≤ 127 → source ≤ 127
+      → Below 256 (frameOf destination source p) × (smbusCarries 64 (frameOf destination source p) destination ≡ packet p (Source source))
+  every-frame destination source b sized to by =
+      let bounds = within-bounds 5 68 (length p) sized in
+      let least : 64 ≤ 64 = omega arith in
+      let largest : 64 ≤ 246 = omega arith in (
+        frame-bytes destination source p to by (omega (arith, bounds .1)) b,
+        smbus-found 64 (frameOf destination source p) destination p source
+            (smbus-back.frame-number 64 destination source p least largest to (bounds .0) (bounds .1))
+            (smbus-back.frame-packet 64 destination source p least largest to (bounds .0) (bounds .1))
+            (smbus-back.frame-source 64 destination source p least largest to (bounds .0) (bounds .1)),
+      )
+
+  pub every-region : (id : ℕ) (notify : Bool) → Below 256 p → packetSize 64 (length p) ≡ true → id ≤ 255
+      → Below 256 (regionFor id notify p) × (pccCarries 64 (regionFor id notify p) id ≡ packet p (Notify notify))
+  every-region id notify b sized subspace = (
+    every-bytes id notify p b,
+    pcc-found 64 (regionFor id notify p) id p notify (pcc-back.every-number 64 id notify p refl subspace sized) (pcc-back.every-packet 64 id notify p refl subspace sized) (pcc-back.every-notify 64 id notify p refl subspace sized),
+  )
+
+  ring-bytes : Below 256 p → Below 256 (ringBytes p)
+  unfolding ringBytes
+  ring-bytes b =
+      below-append (wordBytes highFirst (headerFor (length p))) (p ++ replicate (paddingFor (length p)) 0) (below-word highFirst (headerFor (length p)))
+      (below-append p (replicate (paddingFor (length p)) 0) b (below-zeros (paddingFor (length p))))
+
+  turn-bytes : (n : ℕ) (s : List ℕ) → Below 256 s → Below 256 (turn n s)
+  unfolding turn
+  turn-bytes n s b = below-append (drop n s) (take n s) (below-drop n s b) (below-take n s b)
+
+  arrival-bytes : (configured : ℕ) → Below 256 p → Below 256 (arrivalRing configured p)
+  unfolding arrivalRing stored fronted
+  arrival-bytes configured b =
+      let zeros = replicate {A = ℕ} configured 0 in
+      let behind = drop (length (ringBytes p)) (turn 0 zeros) in
+      turn-bytes (length zeros - 0) (ringBytes p ++ behind)
+      (below-append (ringBytes p) behind (ring-bytes b) (below-drop (length (ringBytes p)) (turn 0 zeros) (turn-bytes 0 zeros (below-zeros configured))))
+
+  pub every-ring : (configured : ℕ) (flags : Flags) (out : List ℕ) → Below 256 p → packetSize 64 (length p) ≡ true
+      → lengthRight configured ≡ true → mayRead (stateOf flags) ≡ true → 68 ≤ length out
+      → Below 256 (arrivalRing configured p)
+      × (ringCarries 64 (arrivalRing configured p) configured flags 0 (wholeFor (length p)) out ≡ packet p (Next (wholeFor (length p))))
+  every-ring configured flags out b sized right runs room = (
+    arrival-bytes configured b,
+    ring-found 64 (arrivalRing configured p) configured flags 0 (wholeFor (length p)) p (wholeFor (length p)) out runs (ring-round.arrival-base configured p out right sized room),
+  )

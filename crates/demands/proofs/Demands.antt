@@ -1,0 +1,165 @@
+-- The three demands of the racks, sentence by sentence, each a theorem over the definitions that the public contracts cite. 64 is the base's largest body.
+-- Assumes nothing.
+use mathlib.Core.Path.{_≡_, ap}
+use mathlib.Core.Bool.{Bool, true}
+use mathlib.Core.List.{List, [], _∷_, _++_}
+use Prim.Native.Nat.{ℕ, _≤_}
+use lib.ListN.{length, take}
+use Rattle.octets.specs.Bytes.{Below}
+use Rattle.mctp.specs.Packet.{packetSize}
+use Rattle.mctp.specs.Key.{keyOf}
+use Rattle.pec.specs.Wire.{WindowChange}
+use Rattle.smbus.specs.Frame.{frameOf}
+use Rattle.smbus.specs.Reading as smbus
+use Rattle.smbus.specs.Writing as frames
+use Rattle.smbus.proofs.Placing.{output-unwritten}
+use Rattle.smbus.proofs.Window.{window-refused}
+use Rattle.pcc.specs.Region.{regionFor}
+use Rattle.pcc.specs.Writing as regions
+use Rattle.pcc.proofs.Writing.{written-refused}
+use Rattle.descriptor.specs.declared.configuration.Part.{Part}
+use Rattle.descriptor.specs.declared.configuration.Configuration.{Configuration}
+use Rattle.descriptor.specs.Descriptor.{outcomeOf, found}
+use Rattle.descriptor.specs.Configuration.{isRing, partPlace}
+use Rattle.descriptor.specs.Window.{partOf}
+use Rattle.mmbi.specs.Interface.{stateOf, mayRead}
+use Rattle.mmbi.specs.declared.interface.Flags.{Flags}
+use Rattle.ring.specs.Numbers.{lengthRight}
+use Rattle.ring.specs.Packet.{wholeFor}
+use Rattle.ring.specs.Runs.{arrivalRing}
+use Rattle.ring.specs.Reading as taking
+use Rattle.ring.specs.Writing as putting
+use Rattle.ring.proofs.Readings.{taken-not-1}
+use Rattle.ring.proofs.Writings.{put-not-1}
+use Rattle.slots.specs.declared.state.Receiver.{Receiver}
+use Rattle.slots.specs.declared.state.Setup.{Setup}
+use Rattle.slots.specs.Changes.{fresh}
+use Rattle.receiver.specs.Effects.{Unchanged, SlotFreed}
+use Rattle.receiver.specs.Step.{refused, stepOf}
+use Rattle.messages.specs.Run.{give, run, runPackets}
+use Rattle.messages.specs.Message.{Item, callsOf, Train, Accepted, slotFor}
+use Rattle.messages.proofs.Acceptance.{acceptance}
+use Rattle.rack.specs.declared.answer.Known.{Known}
+use Rattle.rack.specs.declared.answer.Known.the-variants.{Source, Notify, Next}
+use Rattle.rack.specs.Arrivals.{Arrival, bySmbus, byPcc, byRing, Without, packet, none, carries, ringCarries}
+use Rattle.rack.specs.Answers.{Left, given, nothing}
+use Rattle.demands.specs.Presenting.{arrival, present, packetsOf}
+use Rattle.demands.proofs.Arrivals as good
+use Rattle.demands.proofs.CutRings.{cut-ring-right}
+use Rattle.demands.proofs.Outputs as outputs
+use Rattle.demands.proofs.Presented.{presented}
+
+-- DEMAND 1: NOTHING BREAKS IT
+--
+-- "Any bytes, pointers, lengths and stored state may be handed in.": no public call has a `requires`.
+-- "Nothing outside the lent memory is touched, every call ends": the checker's own verdict on every function of every crate.
+-- "and bad input gets the refusal that document 01 fixes": each contract is an equation, on every input, with a definition in its check order.
+
+-- "Lent memory is then unchanged, and so is the receiver": where the carrier refuses, skips or finds nothing
+pub without-a-packet : (r : Receiver) (m : List ℕ) (a : Arrival) (why : Without) → carries 64 a ≡ none why
+    → arrival 64 r m a ≡ record { told = nothing why; receiver = r; memory = m }
+without-a-packet r m a why e = good.none-leaves-all 64 r m a why e
+
+-- and where the message rules refuse, "but for the three refusals that free one slot (20, 21, 22)"
+pub refused-by-the-rules : (r : Receiver) (m : List ℕ) (a : Arrival) (known : Known) (n : ℕ) → arrival 64 r m a .told ≡ given known (refused n)
+    → (n ≡ 20 → ⊥) → (n ≡ 21 → ⊥) → (n ≡ 22 → ⊥) → Unchanged r m (arrival 64 r m a .receiver) (arrival 64 r m a .memory)
+refused-by-the-rules r m a known n = good.rules-refused 64 r m known n (carries 64 a)
+
+-- of which each frees the slot that has the packet's key, and no other, and leaves the memory
+pub refused-and-freed : (r : Receiver) (m p : List ℕ) (a : Arrival) (known : Known) (n : ℕ) → carries 64 a ≡ packet p known
+    → arrival 64 r m a .told ≡ given known (refused n) → 20 ≤ n → SlotFreed (keyOf p) r m (arrival 64 r m a .receiver) (arrival 64 r m a .memory)
+refused-and-freed r m p a known n e = good.rules-freed 64 r m p known n (carries 64 a) e
+
+-- "and a ring packet that was already copied out": the output holds it at its front, and is unchanged where there is none
+pub ring-output : (ring : List ℕ) (configured : ℕ) (flags : Flags) (read write : ℕ) (out : List ℕ)
+    → taking.readOf 64 ring configured (mayRead (stateOf flags)) read write out .output ≡ outputs.outputOf (ringCarries 64 ring configured flags read write out) out
+ring-output = outputs.ring-output 64
+
+-- a ring cut out of a window by a configuration that was read from it never gets 1, in reading and in writing
+pub cut-ring-is-never-1 : (window : List ℕ) (c : Configuration) (part : Part) → isRing part ≡ true → outcomeOf window ≡ found c
+    → (running : Bool) (read write n : ℕ)
+    → (taking.takenOf 64 (partOf window c part) (partPlace c part .length) running read write n ≡ taking.refused 1 → ⊥)
+    × (putting.putOf 64 (length (partOf window c part)) (partPlace c part .length) running read write n ≡ putting.refused 1 → ⊥)
+cut-ring-is-never-1 window c part is e running read write n =
+    let right = cut-ring-right window c part is e in (
+      taken-not-1 64 (partOf window c part) (partPlace c part .length) running read write n right,
+      put-not-1 64 (length (partOf window c part)) (partPlace c part .length) running read write n right,
+    )
+
+-- a refused writer leaves what was lent to it
+pub frame-not-written : (out p : List ℕ) (destination source : ℕ) → (frames.writeRefusal 64 (length out) (length p) destination source ≡ 0 → ⊥)
+    → frames.outputOf 64 out p destination source ≡ out
+frame-not-written out p destination source = output-unwritten 64 out p destination source
+
+pub region-not-written : (region : List ℕ) (id : ℕ) (notify : Bool) (p : List ℕ) → 1 ≤ regions.writeRefusal 64 (length region) id (length p)
+    → regions.writtenOf 64 region id notify p ≡ region
+region-not-written region id notify p = written-refused region p id notify 64
+
+pub ring-not-written : (ring : List ℕ) (configured : ℕ) (running : Bool) (read write : ℕ) (p : List ℕ) (n : ℕ)
+    → putting.writeOf 64 ring configured running read write p .says ≡ putting.refused n
+    → putting.writeOf 64 ring configured running read write p .ring ≡ ring
+ring-not-written ring configured running read write p n e = ap (λ (s : putting.Said). putting.ringOf s ring write p) e
+
+-- DEMAND 2: THE LAYOUTS AND THE MESSAGE RULES
+--
+-- "Frames read and frames written follow the DMTF layouts": a good frame is the layout of its packet, and so is a written one (`written-frame`).
+pub good-frame-is-the-layout : (frame : List ℕ) (own : ℕ) (h : smbus.refusalOf 64 frame own ≡ 0)
+    → frame ≡ frameOf own (smbus.sourceAddressOf 64 frame own) (smbus.packetOf 64 frame own)
+good-frame-is-the-layout = good.frame-layout 64
+
+-- "and messages are put together by the MCTP rules": packets of one key with start first, sequences rising modulo 4, middles of the start's size, an end
+-- no longer, are accepted whatever may stand between; held is the sum of the bodies so far, the message is the bodies joined
+pub messages-are-put-together : (r : Receiver) (m first : List ℕ) (items : List Item) (final : List ℕ) (t : Train 64 r m first items final)
+    → Accepted r first items final (run 64 r m (give first ∷ (callsOf items ++ (give final ∷ []))))
+    (run 64 (stepOf 64 r m first .receiver) (stepOf 64 r m first .memory) (callsOf items)) (slotFor (r .slots) (keyOf first))
+messages-are-put-together r m first items final t = acceptance 64 r m first items final t
+
+-- "What is written reads back the same": "a frame at its destination address,"
+pub frame-reads-back : (out p : List ℕ) (destination source : ℕ) → frames.writeRefusal 64 (length out) (length p) destination source ≡ 0
+    → carries 64 (bySmbus (take (frames.frameSize (length p)) (frames.outputOf 64 out p destination source)) destination) ≡ packet p (Source source)
+frame-reads-back = good.frame-back 64
+
+-- "a region under the same id,"
+pub region-reads-back : (region : List ℕ) (id : ℕ) (notify : Bool) (p : List ℕ) → regions.writeRefusal 64 (length region) id (length p) ≡ 0
+    → carries 64 (byPcc (regions.writtenOf 64 region id notify p) id) ≡ packet p (Notify notify)
+region-reads-back = good.region-back 64
+
+-- "a ring from the old write pointer."
+pub ring-reads-back : (ring : List ℕ) (configured : ℕ) (running : Bool) (read write : ℕ) (p : List ℕ) (next : ℕ) (flags : Flags) (out : List ℕ)
+    → putting.writeOf 64 ring configured running read write p .says ≡ putting.written next → mayRead (stateOf flags) ≡ true → 68 ≤ length out
+    → carries 64 (byRing (putting.writeOf 64 ring configured running read write p .ring) configured flags write next out) ≡ packet p (Next next)
+ring-reads-back = good.ring-back 64
+
+-- DEMAND 3: THE PATH DOESN'T MATTER
+--
+-- "Present a fresh receiver with any finite list of arrivals, good, bad or empty, on the three paths mixed at will. What the message rules answer to the
+-- good arrivals, the messages, the end state and the message memory are those that demand 2's rules give to the bare packets of the good arrivals,
+-- in that order, from the same starting memory."
+pub the-path-does-not-matter : (s : Setup) (m : List ℕ) (arrivals : List Arrival) → present 64 (fresh s) m arrivals ≡ runPackets 64 (fresh s) m (packetsOf 64 arrivals)
+the-path-does-not-matter s m arrivals = presented 64 arrivals (fresh s) m
+
+-- a fresh receiver isn't special: the same from any state and memory
+pub from-any-state : (r : Receiver) (m : List ℕ) (arrivals : List Arrival) → present 64 r m arrivals ≡ runPackets 64 r m (packetsOf 64 arrivals)
+from-any-state r m arrivals = presented 64 arrivals r m
+
+-- "Every packet of 5 to 68 bytes has a good arrival on each path.": a frame of bytes between any two addresses,
+pub every-packet-by-smbus : (p : List ℕ) (destination source : ℕ) → Below 256 p → packetSize 64 (length p) ≡ true → destination ≤ 127 → source ≤ 127
+    → Below 256 (frameOf destination source p) × (carries 64 (bySmbus (frameOf destination source p) destination) ≡ packet p (Source source))
+every-packet-by-smbus p = good.every-frame p
+
+-- a region of bytes under any id,
+pub every-packet-by-pcc : (p : List ℕ) (id : ℕ) (notify : Bool) → Below 256 p → packetSize 64 (length p) ≡ true → id ≤ 255
+    → Below 256 (regionFor id notify p) × (carries 64 (byPcc (regionFor id notify p) id) ≡ packet p (Notify notify))
+every-packet-by-pcc p = good.every-region p
+
+-- and a ring of bytes of any right length
+pub every-packet-by-ring : (p : List ℕ) (configured : ℕ) (flags : Flags) (out : List ℕ) → Below 256 p → packetSize 64 (length p) ≡ true
+    → lengthRight configured ≡ true → mayRead (stateOf flags) ≡ true → 68 ≤ length out
+    → Below 256 (arrivalRing configured p)
+    × (carries 64 (byRing (arrivalRing configured p) configured flags 0 (wholeFor (length p)) out) ≡ packet p (Next (wholeFor (length p))))
+every-packet-by-ring p = good.every-ring p
+
+-- "A good SMBus frame with one or more bits changed, all within eight neighbouring bits in wire order, is refused.": at every own address
+pub changed-frame-is-refused : (frame changed : List ℕ) → Below 256 frame → Below 256 changed → WindowChange frame changed
+    → (own : ℕ) → smbus.refusalOf 64 frame own ≡ 0 → (other : ℕ) → smbus.refusalOf 64 changed other ≡ 0 → ⊥
+changed-frame-is-refused frame changed b c w own e other = window-refused frame changed b c w 64 own e 64 other

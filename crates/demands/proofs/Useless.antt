@@ -1,0 +1,173 @@
+-- The useless builds of document 01 ("Shutting out empty work"), each shut out: a build with that behaviour that meets the contract's own equation is
+-- a contradiction. A build is what a call leaves of every input.
+-- Assumes nothing.
+use mathlib.Core.Path.{_≡_, refl, ap, sym, _∙_}
+use mathlib.Core.Bool.{Bool, true, false, false≢true}
+use mathlib.Core.List.{List, [], _∷_, _++_}
+use Prim.Native.Nat.{ℕ, zero, suc}
+use native.Mathlib.Omega.{arith}
+use lib.Dec.{lit<, lit≤}
+use lib.ListN.{length, getD, replicate}
+use Rattle.octets.specs.Bytes.{Below, laid}
+use Rattle.mctp.specs.Packet.{startOf}
+use Rattle.mctp.specs.Key.{keyOf, headerOf, sameKey}
+use Rattle.smbus.proofs.Literal.{literalFrame, literalPacket}
+use Rattle.pcc.specs.Region.{regionFor}
+use Rattle.mmbi.specs.declared.interface.Flags.{Flags}
+use Rattle.mmbi.specs.Interface.{flagsOf, stateOf, mayRead}
+use Rattle.ring.specs.Packet.{wholeFor}
+use Rattle.ring.specs.Runs.{arrivalRing}
+use Rattle.slots.specs.declared.state.Receiver.{Receiver}
+use Rattle.slots.specs.declared.state.SlotState.the-variants.{Free, Gathering}
+use Rattle.slots.specs.Slots.{slotAt, isFree, firstOf, slotOf, lowestFree}
+use Rattle.slots.specs.State.{multiple, rightNumbers, rightSlot, clash, rightState}
+use Rattle.receiver.specs.Checks.{setupRefusal, packetRefusal, sourceRefusal}
+use Rattle.receiver.specs.Rules.{after, onStart, gathered, onFollow, ruled}
+use Rattle.receiver.specs.Decision.{fromSource, fromPacket, decided}
+use Rattle.receiver.specs.Step as rules
+use Rattle.rack.specs.declared.answer.Known.{Known}
+use Rattle.rack.specs.Arrivals.{Arrival, bySmbus, byPcc, byRing, Carried, Without, packet, carries}
+use Rattle.rack.specs.Answers.{Told, given, nothing, Left, arrivedOf}
+use Rattle.demands.specs.Presenting.{arrival, packetIn, packetsOf}
+use Rattle.demands.specs.Numbers.{card, empty, packetWith}
+use Rattle.demands.proofs.Arrivals.{every-region, every-ring}
+use Rattle.demands.proofs.Checked.{literal-carried}
+
+-- facts by computation that the shut-outs rest on
+small : Below 256 literalPacket
+small zero = lit< tt
+small (suc zero) = lit< tt
+small (suc (suc zero)) = lit< tt
+small (suc (suc (suc zero))) = lit< tt
+small (suc (suc (suc (suc zero)))) = lit< tt
+small (suc (suc (suc (suc (suc i))))) = lit< tt
+
+running : mayRead (stateOf (flagsOf true false true false)) ≡ true
+unfolding stateOf
+running = refl
+
+-- a receiver that has taken a start of one byte
+abbrev gathering : Receiver
+gathering =
+    record {
+      setup = record { own = record { 0 = 9 } };
+      slots =
+          record { state = Gathering (record { destination = record { 0 = 9 }; source = record { 0 = 10 }; owner = false; tag = 0 }) 0 1 1 }
+          ∷ record { state = Free }
+          ∷ record { state = Free }
+          ∷ record { state = Free }
+          ∷ [];
+    }
+
+no-memory : rules.stepOf 64 card [] [] .said ≡ rules.refused 2
+unfolding rules.stepOf decided fromPacket fromSource setupRefusal packetRefusal sourceRefusal ruled onStart onFollow gathered after slotOf lowestFree firstOf headerOf keyOf sameKey rightState rightSlot rightNumbers multiple clash laid
+no-memory = refl
+
+first-taken : isFree (slotAt (rules.stepOf 64 card empty (packetWith 0x80 1 7) .receiver .slots) 0) ≡ false
+unfolding rules.stepOf decided fromPacket fromSource setupRefusal packetRefusal sourceRefusal ruled onStart onFollow gathered after slotOf lowestFree firstOf headerOf keyOf sameKey rightState rightSlot rightNumbers multiple clash laid
+first-taken = refl
+
+first-laid : getD (rules.stepOf 64 card empty (packetWith 0x80 1 7) .memory) 0 0 ≡ 7
+unfolding rules.stepOf decided fromPacket fromSource setupRefusal packetRefusal sourceRefusal ruled onStart onFollow gathered after slotOf lowestFree firstOf headerOf keyOf sameKey rightState rightSlot rightNumbers multiple clash laid
+first-laid = refl
+
+second-laid : getD (rules.stepOf 64 gathering empty (packetWith 0x50 1 7) .memory) 1 0 ≡ 7
+unfolding rules.stepOf decided fromPacket fromSource setupRefusal packetRefusal sourceRefusal ruled onStart onFollow gathered after slotOf lowestFree firstOf headerOf keyOf sameKey rightState rightSlot rightNumbers multiple clash laid
+second-laid = refl
+
+held-one : rules.stepOf 64 card empty (packetWith 0x80 1 7) .said ≡ rules.held 0 1 false
+unfolding rules.stepOf decided fromPacket fromSource setupRefusal packetRefusal sourceRefusal ruled onStart onFollow gathered after slotOf lowestFree firstOf headerOf keyOf sameKey rightState rightSlot rightNumbers multiple clash laid
+held-one = refl
+
+held-two : rules.stepOf 64 card empty (packetWith 0x80 2 7) .said ≡ rules.held 0 2 false
+unfolding rules.stepOf decided fromPacket fromSource setupRefusal packetRefusal sourceRefusal ruled onStart onFollow gathered after slotOf lowestFree firstOf headerOf keyOf sameKey rightState rightSlot rightNumbers multiple clash laid
+held-two = refl
+
+none-found : length (packetsOf 64 []) ≡ 0
+unfolding packetsOf
+none-found = refl
+
+one-found : length (packetsOf 64 (bySmbus literalFrame 32 ∷ [])) ≡ 1
+unfolding packetsOf
+one-found = ap (λ (c : Carried). length (packetIn c ++ [])) literal-carried
+
+-- "One that refuses everything is shut out by 3's arrival on each path with 2's reading.": a good arrival is never answered with a refusal
+module _ (build : Receiver → List ℕ → Arrival → Left) (meets : (r : Receiver) (m : List ℕ) (a : Arrival) → build r m a ≡ arrival 64 r m a) where
+  not-both : (known : Known) (said : rules.Said) (why : Without) → given known said ≡ nothing why → ⊥
+  not-both known said why e = let z : _≡_ {A = ℕ} 0 1 = cc in omega arith
+
+  refuser : (a : Arrival) (p : List ℕ) (known : Known) → carries 64 a ≡ packet p known
+      → ((r : Receiver) (m : List ℕ) → (why : Without) × (build r m a .told ≡ nothing why)) → ⊥
+  refuser a p known e refuses =
+      let no = refuses card empty in
+      not-both known (rules.stepOf 64 card empty p .said) (no .0)
+      (sym (ap (λ (l : Left). l .told) (meets card empty a) ∙ ap (λ (c : Carried). arrivedOf 64 card empty c .told) e) ∙ no .1)
+
+  abbrev Refuses : Arrival → Type 0
+  Refuses a = (r : Receiver) (m : List ℕ) → (why : Without) × (build r m a .told ≡ nothing why)
+
+  pub refuses-every-frame : ((frame : List ℕ) (own : ℕ) → Refuses (bySmbus frame own)) → ⊥
+  refuses-every-frame all = refuser (bySmbus literalFrame 32) literalPacket _ literal-carried (all literalFrame 32)
+
+  pub refuses-every-region : ((region : List ℕ) (id : ℕ) → Refuses (byPcc region id)) → ⊥
+  refuses-every-region all =
+      refuser (byPcc (regionFor 3 true literalPacket) 3) literalPacket _ (every-region literalPacket 3 true small refl (lit≤ tt) .1) (all (regionFor 3 true literalPacket) 3)
+
+  pub refuses-every-ring : ((ring : List ℕ) (configured : ℕ) (flags : Flags) (read write : ℕ) (out : List ℕ) → Refuses (byRing ring configured flags read write out)) → ⊥
+  refuses-every-ring all =
+      let ring = arrivalRing 128 literalPacket in
+      let flags = flagsOf true false true false in
+      let out = replicate {A = ℕ} 68 0 in
+      refuser (byRing ring 128 flags 0 (wholeFor 5) out) literalPacket _ (every-ring literalPacket 128 flags out small refl refl running (lit≤ tt) .1) (all ring 128 flags 0 (wholeFor 5) out)
+
+-- A build of the call that gives a packet to the message rules.
+module _ (build : Receiver → List ℕ → List ℕ → rules.Left) (meets : (r : Receiver) (m p : List ℕ) → build r m p ≡ rules.stepOf 64 r m p) where
+  said : (r : Receiver) (m p : List ℕ) (s : rules.Said) → rules.stepOf 64 r m p .said ≡ s → build r m p .said ≡ s
+  said r m p s e = ap (λ (l : rules.Left). l .said) (meets r m p) ∙ e
+
+  -- "One that answers "done, slot 0" to all is shut out by 2's message rules."
+  pub done-to-all : ((r : Receiver) (m p : List ℕ) → (n : ℕ) × (again : Bool) × (build r m p .said ≡ rules.done 0 n again)) → ⊥
+  done-to-all all =
+      let claim = all card [] [] .2 in
+      let rule = said card [] [] (rules.refused 2) no-memory in
+      let z : _≡_ {A = ℕ} 0 1 = cc in
+      omega arith
+
+  -- "One that leaves slots and memory as they are breaks the first start under 2."
+  pub leaves-the-slots : ((r : Receiver) (m p : List ℕ) → build r m p .receiver ≡ r) → ⊥
+  leaves-the-slots all =
+      false≢true
+      (sym first-taken
+      ∙ ap (λ (l : rules.Left). isFree (slotAt (l .receiver .slots) 0)) (sym (meets card empty (packetWith 0x80 1 7)))
+      ∙ ap (λ (r : Receiver). isFree (slotAt (r .slots) 0)) (all card empty (packetWith 0x80 1 7)))
+
+  pub leaves-the-memory : ((r : Receiver) (m p : List ℕ) → build r m p .memory ≡ m) → ⊥
+  leaves-the-memory all =
+      let seven : _≡_ {A = ℕ} 7 0 =
+      sym first-laid
+      ∙ ap (λ (l : rules.Left). getD (l .memory) 0 0) (sym (meets card empty (packetWith 0x80 1 7)))
+      ∙ ap (λ (m : List ℕ). getD m 0 0) (all card empty (packetWith 0x80 1 7)) in
+      omega arith
+
+  -- "One that gathers the first packet and pretends after it breaks 3 at the second, since 3 is stated over 2's rules."
+  pub pretends-after-the-first : ((r : Receiver) (m p : List ℕ) → startOf p ≡ false → build r m p .memory ≡ m) → ⊥
+  pretends-after-the-first all =
+      let seven : _≡_ {A = ℕ} 7 0 =
+      sym second-laid
+      ∙ ap (λ (l : rules.Left). getD (l .memory) 1 0) (sym (meets gathering empty (packetWith 0x50 1 7)))
+      ∙ ap (λ (m : List ℕ). getD m 1 0) (all gathering empty (packetWith 0x50 1 7) refl) in
+      omega arith
+
+  -- "A made-up held .. count fails since held is the sum of the bodies"
+  pub one-held-count : (n : ℕ) → ((r : Receiver) (m p : List ℕ) (slot bytes : ℕ) (again : Bool) → build r m p .said ≡ rules.held slot bytes again → bytes ≡ n) → ⊥
+  one-held-count n all =
+      let one = all card empty (packetWith 0x80 1 7) 0 1 false (said card empty (packetWith 0x80 1 7) (rules.held 0 1 false) held-one) in
+      let two = all card empty (packetWith 0x80 2 7) 0 2 false (said card empty (packetWith 0x80 2 7) (rules.held 0 2 false) held-two) in
+      omega arith
+
+-- ".. or packet count fails since .. packets is counted by 2's layouts."
+pub one-packet-count : (count : List Arrival → ℕ) → ((arrivals : List Arrival) → count arrivals ≡ length (packetsOf 64 arrivals))
+    → (n : ℕ) → ((arrivals : List Arrival) → count arrivals ≡ n) → ⊥
+one-packet-count count meets n all =
+    let good = bySmbus literalFrame 32 in
+    omega (arith, meets [], all [], none-found, meets (good ∷ []), all (good ∷ []), one-found)

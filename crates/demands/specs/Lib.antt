@@ -1,0 +1,2 @@
+pub mod Presenting
+pub mod Numbers

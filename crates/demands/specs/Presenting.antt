@@ -1,0 +1,40 @@
+-- A list of arrivals presented to a receiver, on the three paths mixed at will, and the bare packets of the good ones (demand 3).
+-- Assumes nothing.
+use Prim.Native.Nat.{ℕ}
+use mathlib.Core.List.{List, [], _∷_, _++_}
+use Rattle.slots.specs.declared.state.Receiver.{Receiver}
+use Rattle.messages.specs.Run.{Reply, rules, messagesOf, Ran, joined}
+use Rattle.rack.specs.Arrivals.{Arrival, Carried, packet, none, carries}
+use Rattle.rack.specs.Answers.{Told, given, nothing, Left, arrivedOf}
+
+-- one arrival, as the calls of the three paths promise it
+abbrev pub arrival : ℕ → Receiver → List ℕ → Arrival → Left
+arrival most r m a = arrivedOf most r m (carries most a)
+
+-- "What the message rules answer to the good arrivals": to any other they answer nothing
+abbrev pub answersIn : Told → List Reply
+answersIn (given known said) = rules said ∷ []
+answersIn (nothing why) = []
+
+-- the messages
+abbrev pub messagesIn : Told → List ℕ → List (List ℕ)
+messagesIn (given known said) m = messagesOf said m
+messagesIn (nothing why) m = []
+
+abbrev pub ofArrival : Left → Ran
+ofArrival l = record { answers = answersIn (l .told); messages = messagesIn (l .told) (l .memory); receiver = l .receiver; memory = l .memory }
+
+-- "any finite list of arrivals, good, bad or empty, on the three paths mixed at will", each in the state and memory that the one before it left
+unfoldable pub present : ℕ → Receiver → List ℕ → List Arrival → Ran
+present most r m [] = record { answers = []; messages = []; receiver = r; memory = m }
+present most r m (a ∷ arrivals) =
+    joined (ofArrival (arrival most r m a)) (present most (arrival most r m a .receiver) (arrival most r m a .memory) arrivals)
+
+abbrev pub packetIn : Carried → List (List ℕ)
+packetIn (packet p known) = p ∷ []
+packetIn (none why) = []
+
+-- "the bare packets of the good arrivals, in that order"
+unfoldable pub packetsOf : ℕ → List Arrival → List (List ℕ)
+packetsOf most [] = []
+packetsOf most (a ∷ arrivals) = packetIn (carries most a) ++ packetsOf most arrivals

@@ -1,0 +1,108 @@
+-- From each carrier's own answer to what the arrival carries: what the calls of the three paths cite.
+-- Assumes nothing.
+use mathlib.Core.Path.{_≡_, refl, ap, sym, _∙_}
+use mathlib.Core.Bool.{Bool}
+use mathlib.Core.List.{List}
+use Prim.Native.Nat.{ℕ, _+_, _≤_, _<_}
+use native.Mathlib.Omega.{arith}
+use lib.ListN.{length, take, drop, length-take, length-drop}
+use lib.Seq.{take-at}
+use Rattle.octets.specs.Bytes.{fronted}
+use borrow.Author.Tests.{eq-eqb, ne-eqb}
+use Rattle.mctp.specs.declared.refusal.Refusal.{Refusal}
+use Rattle.mctp.specs.Refusals.{numberOf}
+use Rattle.mctp.proofs.Refusals.{number-positive}
+use Rattle.smbus.specs.declared.answer.Carried as smbus
+use Rattle.smbus.specs.declared.answer.Carried.the-variants as smbus-case
+use Rattle.smbus.specs.Reading as frame
+use Rattle.smbus.specs.Answers as smbus-says
+use Rattle.smbus.proofs.Answering.{told-good, told-packet, told-source, told-number}
+use Rattle.pcc.specs.declared.answer.Carried as pcc
+use Rattle.pcc.specs.declared.answer.Carried.the-variants as pcc-case
+use Rattle.pcc.specs.Reading as region
+use Rattle.pcc.specs.Answers as pcc-says
+use Rattle.pcc.proofs.Answers.{number-said, notify-said, packet-said}
+use Rattle.mmbi.specs.declared.interface.Flags.{Flags}
+use Rattle.mmbi.specs.Interface.{stateOf, mayRead}
+use Rattle.ring.specs.declared.reading.Taken as ring
+use Rattle.ring.specs.declared.reading.Taken.the-variants as ring-case
+use Rattle.ring.specs.Turn.{turn}
+use Rattle.ring.specs.Packet as ring-packet
+use Rattle.ring.specs.Reading as ring-says
+use Rattle.ring.proofs.Turns.{turn-length}
+use Rattle.ring.proofs.Readings.{Good, good, good-short}
+use Rattle.rack.specs.declared.answer.Known.the-variants.{Source, Notify}
+use Rattle.rack.specs.Arrivals.{Carried, packet, none, refused, smbusCarries, pccCarries, ringSays, ringCarries}
+
+not-zero : (why : Refusal) {n : ℕ} → n ≡ numberOf why → n ≡ 0 → ⊥
+not-zero why e z = omega (arith, number-positive why)
+
+module _ (most : ℕ) (f : List ℕ) (own : ℕ) (c : smbus.Carried) (says : smbus-says.saysCarried c ≡ smbus-says.carriedOf most f own) where
+  pub smbus-none : (why : Refusal) → c ≡ smbus-case.Refused why → smbusCarries most f own ≡ none (refused (numberOf why))
+  unfolding smbusCarries
+  smbus-none why is =
+      let n : frame.refusalOf most f own ≡ numberOf why = told-number most f own c says why is in
+      rw (ne-eqb (frame.refusalOf most f own) 0 (not-zero why n), n)
+
+  pub smbus-packet : (a : ℕ) → c ≡ smbus-case.Packet a → smbusCarries most f own ≡ packet (frame.partOf f) (Source a)
+  unfolding smbusCarries
+  smbus-packet a is =
+      rw (eq-eqb (frame.refusalOf most f own) 0 (told-good most f own c says a is), told-packet most f own c says a is, told-source most f own c says a is)
+
+module _ (most : ℕ) (r : List ℕ) (id : ℕ) (c : pcc.Carried) (says : pcc-says.says c ≡ region.readOf most r id) where
+  pub pcc-none : (why : Refusal) → c ≡ pcc-case.Refused why → pccCarries most r id ≡ none (refused (numberOf why))
+  unfolding pccCarries
+  pcc-none why is =
+      let n : region.refusalOf most r id ≡ numberOf why = sym (number-said most r id says is) in
+      rw (ne-eqb (region.refusalOf most r id) 0 (not-zero why n), n)
+
+  pub pcc-packet : (size : ℕ) (notify : Bool) → c ≡ pcc-case.Packet size notify → pccCarries most r id ≡ packet (region.partOf r size) (Notify notify)
+  unfolding pccCarries
+  pcc-packet size notify is =
+      let z : region.refusalOf most r id ≡ 0 = sym (number-said most r id says is) in
+      let p : region.packetOf most r id ≡ region.partOf r size = sym (packet-said most r id says is) in
+      let f : region.notifyOf most r id ≡ notify = sym (notify-said most r id says is) in
+      rw (eq-eqb (region.refusalOf most r id) 0 z, p, f)
+
+module _
+    (most : ℕ)
+    (bytes : List ℕ)
+    (configured : ℕ)
+    (flags : Flags)
+    (read write : ℕ)
+    (out after : List ℕ)
+    (t : ring.Taken)
+    (told : ring-says.left (ring-says.saidOf t) after ≡ ring-says.readOf most bytes configured (mayRead (stateOf flags)) read write out)
+  where
+    -- the output afterwards
+    pub ring-output : after ≡ ring-says.readOf most bytes configured (mayRead (stateOf flags)) read write out .output
+    ring-output = ap (λ (l : ring-says.Left). l .output) told
+
+    module _ (u : ring.Taken) (is : t ≡ u) where
+      said : ring-says.takenOf most bytes configured (mayRead (stateOf flags)) read write (length out) ≡ ring-says.saidOf u
+      said = sym (ap (λ (l : ring-says.Left). l .says) told) ∙ ap ring-says.saidOf is
+
+      -- what the ring carries is what its answer says
+      pub ring-carries : ringCarries most bytes configured flags read write out ≡ ringSays (turn read bytes) (ring-says.saidOf u)
+      unfolding ringCarries
+      ring-carries = ap (ringSays (turn read bytes)) said
+
+    module _ (size next : ℕ) (is : t ≡ ring-case.Packet size next) where
+      found : Good most bytes configured (mayRead (stateOf flags)) read write (length out) size next
+      found = good most bytes configured (mayRead (stateOf flags)) read write (length out) size next (said (ring-case.Packet size next) is)
+
+      pub ring-fits : size ≤ length out
+      ring-fits = omega (arith, found .room, found .header .largest)
+
+      sized : length (ring-packet.packetOf (turn read bytes)) ≡ size
+      unfolding ring-packet.packetOf
+      sized =
+          let short : 4 + size < length bytes = good-short most bytes configured (mayRead (stateOf flags)) read write (length out) size next found in
+          simp (length-take, length-drop, turn-length) (omega (arith, found .header .sized))
+
+      -- the packet stands at the output's front
+      pub ring-front : take size after ≡ ring-packet.packetOf (turn read bytes)
+      unfolding fronted
+      ring-front =
+          ap (take size) (ring-output ∙ ap (λ (w : ring-says.Said). ring-says.outputOf w (turn read bytes) out) (said (ring-case.Packet size next) is))
+          ∙ take-at (ring-packet.packetOf (turn read bytes)) (drop (length (ring-packet.packetOf (turn read bytes))) out) size sized

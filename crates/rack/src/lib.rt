@@ -1,0 +1,11 @@
+// Arrivals on the three paths: the carrier's checks, all of them, and then the message rules.
+mod answer;
+mod path;
+
+pub use answer::Arrived;
+pub use answer::Known;
+pub use answer::NoPacket;
+pub use answer::Outcome;
+pub use path::from_pcc;
+pub use path::from_ring;
+pub use path::from_smbus;
