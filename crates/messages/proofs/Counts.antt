@@ -1,12 +1,11 @@
 -- Document 01's numbers about messages, by computation.
 -- Assumes nothing.
 use mathlib.Core.Path.{_≡_, refl}
-use mathlib.Core.Bool.{Bool, true, false}
+use mathlib.Core.Bool.{true, false}
 use mathlib.Core.List.{List, [], _∷_, _++_, map}
 use Prim.Native.Nat.{ℕ, _+_, _*_}
 use lib.ListN.{replicate}
 use Rattle.octets.specs.Bytes.{laid}
-use Rattle.mctp.specs.declared.packet.Key.{Key}
 use Rattle.mctp.specs.Key.{keyOf, headerOf, sameKey}
 use Rattle.slots.specs.declared.state.Slot.{Slot}
 use Rattle.slots.specs.declared.state.SlotState.the-variants.{Free, Gathering}
@@ -17,7 +16,7 @@ use Rattle.slots.specs.Changes.{fresh, freedOf}
 use Rattle.receiver.specs.Checks.{setupRefusal, packetRefusal, sourceRefusal}
 use Rattle.receiver.specs.Rules.{after, onStart, gathered, onFollow, ruled}
 use Rattle.receiver.specs.Decision.{fromSource, fromPacket, decided}
-use Rattle.receiver.specs.Step.{Said, refused, held, done, stepOf}
+use Rattle.receiver.specs.Step.{refused, held, done, stepOf}
 use Rattle.messages.specs.Run.{give, free, rules, freed, run, runPackets}
 
 -- a packet from EID 10 to EID 9 with these flags and n bytes of one value

@@ -1,9 +1,9 @@
 -- A message being gathered: a start begins it, each middle grows it, an end finishes it, and what stands between leaves it.
 -- Assumes nothing.
 use mathlib.Core.Path.{_≡_, refl, ap, sym, _∙_}
-use mathlib.Core.Bool.{Bool, true, false, _&&_, _||_, true≢false}
-use mathlib.Core.List.{List, [], _∷_, _++_}
-use mathlib.Core.Logic.{_⊎_, ⊎-elim}
+use mathlib.Core.Bool.{Bool, true, false, _||_, true≢false}
+use mathlib.Core.List.{List, _++_}
+use mathlib.Core.Logic.{⊎-elim}
 use Prim.Native.Nat.{ℕ, _+_, _*_, _≤_, _<_}
 use native.Mathlib.Nat.{zero-add}
 use native.Mathlib.Omega.{arith}
@@ -14,7 +14,7 @@ use Rattle.octets.specs.Choice.{pick}
 use Rattle.octets.specs.Bytes.{laid}
 use Rattle.octets.proofs.Choice.{within-bounds}
 use Rattle.mctp.specs.declared.packet.Key.{Key}
-use Rattle.mctp.specs.Packet.{bodyOf, startOf, endOf, sequenceOf}
+use Rattle.mctp.specs.Packet.{bodyOf, endOf, sequenceOf}
 use Rattle.mctp.specs.Key.{keyOf, headerOf, sameKey}
 use Rattle.slots.specs.declared.state.Slot.{Slot}
 use Rattle.slots.specs.declared.state.SlotState.{SlotState}
@@ -27,9 +27,9 @@ use Rattle.slots.proofs.States.{right-of, most-bounds, slot-same, slot-other}
 use Rattle.slots.proofs.Found.{holds-key, slot-of-is}
 use Rattle.slots.proofs.Numbers.{gathering-of}
 use Rattle.receiver.specs.Checks.{setupRefusal, packetRefusal, sourceRefusal}
-use Rattle.receiver.specs.Rules.{Decision, put, refuse, after, onStart, gathered, follow, onFollow, ruled}
+use Rattle.receiver.specs.Rules.{put, refuse, after, onStart, gathered, follow, onFollow, ruled}
 use Rattle.receiver.specs.Decision.{fromSource, fromPacket, decided}
-use Rattle.receiver.specs.Step.{Said, refused, held, done, Left, carried, stepOf}
+use Rattle.receiver.specs.Step.{refused, held, done, Left, carried, stepOf}
 use Rattle.receiver.proofs.Checks.{packet-good, unless-good}
 use Rattle.receiver.proofs.Cases.{ruled-start, ruled-follow}
 use Rattle.receiver.proofs.Decided.{every-decision}

@@ -4,19 +4,18 @@ use mathlib.Core.Path.{_≡_, refl, ap, sym, _∙_}
 use mathlib.Core.Bool.{Bool, true, false, not, _||_, or-true, true≢false}
 use mathlib.Core.List.{List}
 use mathlib.Core.Logic.{by-cases}
-use Prim.Native.Nat.{ℕ, _+_, _-_, _%_, _≤_, _<_}
+use Prim.Native.Nat.{ℕ, _+_, _%_, _≤_, _<_}
 use native.Mathlib.Nat.{mod-self, add-mod-right}
 use native.Mathlib.Decide.{decLt}
 use native.Mathlib.Omega.{arith}
 use borrow.Author.Tests.{ltb-true, ltb-false, eqb-true, not-false}
 use lib.Dec.{eqb, ltb, lit≤}
 use lib.ListN.{length, length-drop, List·getD-eq-default}
-use Rattle.octets.specs.Choice.{pick}
 use Rattle.octets.proofs.Choice.{within-bounds}
 use Rattle.mctp.specs.declared.packet.Key.{Key}
 use Rattle.mctp.specs.declared.packet.Header.{Header}
 use Rattle.mctp.specs.Eid.{endpointEid}
-use Rattle.mctp.specs.Packet.{packetSize, bodyOf, destinationOf, sourceOf, versionOf, startOf, tagOf, sequenceOf}
+use Rattle.mctp.specs.Packet.{packetSize, bodyOf, destinationOf, sourceOf, versionOf}
 use Rattle.mctp.specs.Key.{keyOf, headerOf}
 use Rattle.mctp.proofs.Keys.{sequence-below, tag-below}
 use Rattle.slots.specs.declared.state.Setup.{Setup}
@@ -28,12 +27,12 @@ use Rattle.slots.specs.Setup.{oursOf}
 use Rattle.slots.specs.Slots.{slotAt, isFree, hasKey, slotOf, lowestFree}
 use Rattle.slots.specs.State.{rightSlot, clash, rightState}
 use Rattle.slots.proofs.States.{Right, right-of, most-bounds}
-use Rattle.slots.proofs.Found.{holds-key, key-alone, slot-of-has, slot-of-none, lowest-is-free}
+use Rattle.slots.proofs.Found.{key-alone, slot-of-has, slot-of-none, lowest-is-free}
 use Rattle.slots.proofs.Numbers.{Numbers, gathering-of, gathering-holds}
 use Rattle.receiver.specs.Checks.{setupRefusal, packetRefusal, sourceRefusal}
 use Rattle.receiver.specs.Rules.{Decision, refuse, release, put, after, wrongUnit, onStart, gathered, follow, onFollow, ruled}
 use Rattle.receiver.specs.Decision.{fromSource, fromPacket, decided}
-use Rattle.receiver.proofs.Checks.{PacketGood, SetupGood, setup-good, packet-good, source-good}
+use Rattle.receiver.proofs.Checks.{PacketGood, setup-good, packet-good}
 use Rattle.receiver.proofs.Picked.{pick-elim, unless-elim}
 
 -- what every put body has: its slot and its place there, and a state for the slot that keeps the whole state right

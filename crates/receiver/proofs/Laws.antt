@@ -1,13 +1,12 @@
 -- The laws of one packet given to the message rules, in any state, with any memory.
 -- Assumes nothing.
 use mathlib.Core.Path.{_≡_, refl, ap, sym, _∙_}
-use mathlib.Core.Bool.{Bool, true, false}
+use mathlib.Core.Bool.{Bool, true}
 use mathlib.Core.List.{List}
-use Prim.Native.Nat.{ℕ, _+_, _*_, _≤_, _<_}
+use Prim.Native.Nat.{ℕ, _+_, _*_, _≤_}
 use native.Mathlib.Omega.{arith}
 use lib.Dec.{lit<}
 use lib.ListN.{length}
-use Rattle.octets.specs.Bytes.{laid}
 use Rattle.octets.proofs.Laid.{laid-length}
 use Rattle.mctp.specs.Packet.{bodyOf}
 use Rattle.mctp.specs.Key.{keyOf}
@@ -24,13 +23,13 @@ use Rattle.receiver.specs.declared.rules.Plan.the-variants.{Refuse, Rele
 use Rattle.receiver.specs.declared.giving.Answer.{Answer}
 use Rattle.receiver.specs.declared.giving.Answer.the-variants.{Refused, Held, Done}
 use Rattle.receiver.specs.declared.giving.Given.{Given}
-use Rattle.receiver.specs.Rules.{Decision, refuse, release, put, planned}
+use Rattle.receiver.specs.Rules.{Decision, planned}
 use Rattle.receiver.specs.Decision.{decided}
 use Rattle.receiver.specs.Possible.{Possible}
 use Rattle.receiver.specs.Effects.{Unchanged, SlotFreed, OneSlot}
-use Rattle.receiver.specs.Step.{Said, refused, held, done, says, Left, left, answerOf, carried, stepOf}
+use Rattle.receiver.specs.Step.{refused, says, Left, left, answerOf, carried, stepOf}
 use Rattle.receiver.proofs.Laid.{laid-before, laid-behind}
-use Rattle.receiver.proofs.Decided.{Fits, every-decision}
+use Rattle.receiver.proofs.Decided.{every-decision}
 
 -- giving a packet is the decision carried out
 pub step-is-decision : (most : ℕ) (r : Receiver) (m p : List ℕ) → stepOf most r m p ≡ carried r m p (decided most r (length m) p)

@@ -7,10 +7,7 @@ use mathlib.Core.Logic.{dite, by-cases}
 use Prim.Native.Nat.{ℕ, zero, suc, _+_, _≤_, _<_}
 use native.Mathlib.Decide.{decLt, ℕ-discrete}
 use native.Mathlib.Omega.{arith}
-use lib.ListN.{length, set}
-use Rattle.octets.specs.Choice.{pick}
 use Rattle.mctp.specs.declared.packet.Key.{Key}
-use Rattle.mctp.specs.Key.{sameKey}
 use Rattle.mctp.proofs.Keys.{same-key-refl, same-key-true}
 use Rattle.slots.specs.declared.state.Slot.{Slot}
 use Rattle.slots.specs.declared.state.SlotState.{SlotState}
@@ -18,7 +15,7 @@ use Rattle.slots.specs.declared.state.SlotState.the-variants.{Free, Gath
 use Rattle.slots.specs.declared.state.Receiver.{Receiver}
 use Rattle.slots.specs.Slots.{slotAt, isFree, hasKey, firstOf, slotOf, lowestFree}
 use Rattle.slots.specs.State.{clash}
-use Rattle.slots.proofs.States.{Right, clash-sym}
+use Rattle.slots.proofs.States.{Right}
 
 module _ (f : SlotState → Bool) (l : List Slot) where
   -- one step of the search

@@ -1,13 +1,11 @@
 -- Set-up gives a right state, a slot freed leaves one, nothing else changes, and each answer is the only one allowed.
 -- Assumes nothing.
 use mathlib.Core.Path.{_≡_, refl, ap, sym, _∙_}
-use mathlib.Core.Bool.{Bool, true, false, _&&_, false≢true}
-use mathlib.Core.List.{List, [], _∷_}
+use mathlib.Core.Bool.{Bool, true, false, _&&_}
 use Prim.Native.Nat.{ℕ, _≤_, _<_}
 use native.Mathlib.Omega.{arith}
 use borrow.Author.Tests.{ltb-true, lt-ltb, le-ltb}
 use lib.Dec.{ltb}
-use lib.ListN.{length, set}
 use Rattle.octets.specs.Choice.{pick}
 use Rattle.octets.proofs.Choice.{both}
 use Rattle.mctp.specs.declared.refusal.Refusal.{Refusal}
@@ -15,17 +13,15 @@ use Rattle.mctp.specs.Packet.{mostRight}
 use Rattle.mctp.specs.Refusals.{numberOf}
 use Rattle.mctp.proofs.Refusals.{number-injective, number-positive}
 use Rattle.slots.specs.declared.state.Setup.{Setup}
-use Rattle.slots.specs.declared.state.SlotState.{SlotState}
-use Rattle.slots.specs.declared.state.SlotState.the-variants.{Free, Gathering}
+use Rattle.slots.specs.declared.state.SlotState.the-variants.{Free}
 use Rattle.slots.specs.declared.state.Receiver.{Receiver}
 use Rattle.slots.specs.declared.change.Outcome.{Outcome}
 use Rattle.slots.specs.declared.change.Outcome.the-variants.{Good, Refused}
 use Rattle.slots.specs.declared.change.Changed.{Changed}
 use Rattle.slots.specs.Setup.{rightSetup}
-use Rattle.slots.specs.Slots.{slotAt}
 use Rattle.slots.specs.State.{rightSlot, clash, rightState}
 use Rattle.slots.specs.Changes.{Kept, outcomeNumber, keeps, fresh, withState, setUpOf, freedOf}
-use Rattle.slots.proofs.States.{Right, right-of, right-holds, with-right, slot-same, slot-other}
+use Rattle.slots.proofs.States.{right-of, right-holds, with-right}
 
 -- a fresh receiver's state is right
 pub fresh-right : (most : ℕ) (s : Setup) → mostRight most ≡ true → rightSetup s ≡ true → rightState most (fresh s) ≡ true

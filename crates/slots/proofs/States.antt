@@ -1,14 +1,14 @@
 -- A right state taken apart into facts, one for each slot and each pair, and put together from them.
 -- Assumes nothing.
 use mathlib.Core.Path.{_≡_, refl, ap, sym, _∙_}
-use mathlib.Core.Bool.{Bool, true, false, not, _&&_, Bool·beq}
+use mathlib.Core.Bool.{Bool, true, false, not}
 use mathlib.Core.List.{List}
 use mathlib.Core.Logic.{dite}
 use Prim.Native.Nat.{ℕ, zero, suc, _≤_, _<_}
 use native.Mathlib.Decide.{ℕ-discrete}
 use native.Mathlib.Omega.{arith}
-use lib.Dec.{leb, eqb, lit<}
-use lib.ListN.{length, set, getD, length-set}
+use lib.Dec.{lit<}
+use lib.ListN.{length, set, length-set}
 use lib.Seq.{getD-set-same, getD-set-other}
 use borrow.Author.Tests.{eqb-true, eq-eqb, not-true}
 use Rattle.octets.proofs.Choice.{both, within-bounds}
@@ -22,7 +22,7 @@ use Rattle.slots.specs.declared.state.SlotState.the-variants.{Free, Gath
 use Rattle.slots.specs.declared.state.Receiver.{Receiver}
 use Rattle.slots.specs.Setup.{rightSetup}
 use Rattle.slots.specs.Slots.{slotAt, hasKey}
-use Rattle.slots.specs.State.{rightSlot, clash, fourRight, fourApart, rightState}
+use Rattle.slots.specs.State.{rightSlot, clash, rightState}
 use Rattle.slots.specs.Changes.{withState}
 
 -- document 01's list: the set-up, four slots, each slot, each pair

@@ -1,7 +1,7 @@
 -- How a state changes: set-up, a slot's state set anew, a slot freed; and what a call that changes it answers.
 -- Assumes nothing.
 use Prim.Native.Nat.{ℕ}
-use mathlib.Core.Bool.{Bool, _&&_}
+use mathlib.Core.Bool.{_&&_}
 use mathlib.Core.List.{[], _∷_}
 use lib.Dec.{ltb}
 use lib.ListN.{set}

@@ -1,6 +1,5 @@
 -- `receiver::rules::on_follow` meets its contract.
 -- Assumes nothing.
-use mathlib.Core.Path.{sym}
 use Rattle.receiver.specs.Rules.{onFollow}
 use borrow.Author.Needs.{needs}
 use Rattle.receiver.proofs.rules.on_follow.Statement.{statement}

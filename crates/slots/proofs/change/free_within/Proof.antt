@@ -1,7 +1,7 @@
 -- `slots::change::free_within` meets its contract.
 -- Assumes nothing.
 use Rattle.slots.specs.Changes.{freedOf}
-use mathlib.Core.Path.{sym, _∙_}
+use mathlib.Core.Path.{sym}
 use borrow.Author.Needs.{needs}
 use Rattle.slots.proofs.change.free_within.Statement.{statement}
 use Rattle.slots.proofs.change.free_within.Tie as tie

@@ -1,6 +1,5 @@
 -- `slots::check::is_multiple` meets its contract: a unit of 0 has no multiples.
 -- Assumes nothing.
-use mathlib.Core.Path.{refl}
 use borrow.Author.Tests.{lt-leb, le-leb}
 use Rattle.slots.specs.State.{multiple}
 use borrow.Author.Needs.{needs}

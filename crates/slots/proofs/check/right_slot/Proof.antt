@@ -1,6 +1,5 @@
 -- `slots::check::right_slot` meets its contract.
 -- Assumes nothing.
-use mathlib.Core.Path.{sym, ap}
 use Rattle.slots.specs.State.{rightSlot}
 use borrow.Author.Needs.{needs}
 use Rattle.slots.proofs.check.right_slot.Statement.{statement}
