@@ -1,0 +1,52 @@
+-- A part moved to the front byte by byte: the bytes that it has yet to read stand behind those that it has written.
+-- Assumes nothing.
+use mathlib.Core.Path.{_≡_, refl, ap, sym, _∙_}
+use mathlib.Core.List.{List, [], _∷_}
+use Prim.Native.Nat.{ℕ, suc, _+_, _-_, _≤_, _<_, min}
+use native.Mathlib.Nat.{zero-add}
+use native.Mathlib.Omega.{arith}
+use lib.ListN.{length, getD, take, drop, set, length-take, length-drop}
+use lib.Seq.{getD-take, getD-drop, length-take-le, take-all, take-append-seam}
+use Rattle.octets.specs.Bytes.{laid, fronted}
+use Rattle.octets.proofs.Laid.{laid-turn, laid-front}
+use Rattle.receiver.proofs.Laid.{laid-behind}
+use Rattle.transcript.specs.Front.{between, movedOf}
+
+no-bytes : (l : List ℕ) → length l ≡ 0 → l ≡ []
+no-bytes [] h = refl
+no-bytes (x ∷ l) h = absurd (omega arith)
+
+module _ (s : List ℕ) (from end : ℕ) where
+  pub between-size : length (between s from end) ≡ min end (length s) - from
+  unfolding between
+  between-size = simp (length-take, length-drop) (omega arith)
+
+  -- where nothing stands there, nothing moves
+  pub moved-none : min end (length s) ≤ from → (0 ≡ length (between s from end)) × (s ≡ movedOf s from end)
+  unfolding movedOf laid between
+  moved-none h =
+      let none : between s from end ≡ [] = no-bytes (between s from end) (omega (arith, between-size)) in
+      (omega (arith, between-size), rw none)
+
+  -- all of it
+  pub moved-all : (n : ℕ) → n ≡ min end (length s) - from → laid s 0 (take n (between s from end)) ≡ movedOf s from end
+  unfolding movedOf
+  moved-all n e = ap (laid s 0) (take-all n (between s from end) (omega (arith, between-size)))
+
+  -- a turn
+  pub moved-turn : (i : ℕ) → i < min end (length s) - from
+      → set (laid s 0 (take i (between s from end))) i (getD (laid s 0 (take i (between s from end))) (from + i) 0) ≡ laid s 0 (take (suc i) (between s from end))
+  unfolding between
+  moved-turn i h =
+      let size = between-size in
+      let part = length-take-le i (between s from end) (omega arith) in
+      let here : getD (laid s 0 (take i (between s from end))) (from + i) 0 ≡ getD (between s from end) i 0 =
+      laid-behind s 0 (take i (between s from end)) (from + i) (omega arith)
+      ∙ sym (getD-take (end - from) (drop from s) i 0 (omega arith) ∙ getD-drop from s i 0) in
+      rw here (ap (λ (k : ℕ). set (laid s 0 (take i (between s from end))) k (getD (between s from end) i 0)) (sym (zero-add i)) ∙ laid-turn s 0 (between s from end) i (omega arith))
+
+  -- what was moved stands at the front
+  pub moved-front : take (length (between s from end)) (movedOf s from end) ≡ between s from end
+  unfolding movedOf fronted
+  moved-front =
+      rw (laid-front s (between s from end) (omega (arith, between-size))) (take-append-seam (between s from end) (drop (length (between s from end)) s))

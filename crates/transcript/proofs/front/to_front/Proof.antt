@@ -1,0 +1,84 @@
+-- `transcript::front::to_front` meets its contract. The loop's invariant: the first bytes of the part stand at the front.
+-- Assumes nothing.
+use mathlib.Core.Path.{_≡_, refl, _∙_}
+use Prim.Native.Nat.{_-_, _≤_}
+use native.Mathlib.Numerals.{add-one}
+use native.Mathlib.Omega.{arith}
+use lib.ListN.{length, take, length-set}
+use Rattle.octets.specs.Bytes.{laid}
+use Rattle.transcript.specs.Front.{between}
+use Rattle.transcript.proofs.Fronts.{between-size, moved-none, moved-all, moved-turn}
+use Rattle.transcript.proofs.front.to_front.Statement.{statement}
+use Rattle.transcript.proofs.front.to_front.Tie as tie
+
+abbrev Inv-loop : tie.InvT-loop
+Inv-loop bytes₀ from end stop count i₀ bytes i =
+    (i ≤ count) × (bytes ≡ laid bytes₀ 0 (take i (between bytes₀ from end))) × (length bytes ≡ length bytes₀)
+
+abbrev μ-loop : tie.MeasureT-loop
+μ-loop bytes₀ from end stop count i₀ bytes i = count - i
+
+least-requires : tie.Need-least-requires Inv-loop μ-loop
+least-requires c κs = tt
+
+returns : tie.Need-returns Inv-loop μ-loop
+returns c = moved-none _ _ _ (omega arith)
+
+sub-count : tie.Need-sub-count Inv-loop μ-loop
+sub-count c = omega arith
+
+loop-holds : tie.Need-loop-holds Inv-loop μ-loop
+unfolding laid
+loop-holds c = (omega arith, refl, refl)
+
+add-bytes : tie.Need-add-bytes Inv-loop μ-loop
+add-bytes c = omega arith
+
+slice-read-bytes : tie.Need-slice-read-bytes Inv-loop μ-loop
+slice-read-bytes c = omega arith
+
+slice-write-bytes : tie.Need-slice-write-bytes Inv-loop μ-loop
+slice-write-bytes c = omega arith
+
+add-i : tie.Need-add-i Inv-loop μ-loop
+add-i c = omega arith
+
+loop-less : tie.Need-loop-less Inv-loop μ-loop
+loop-less c = omega arith
+
+loop-again : tie.Need-loop-again Inv-loop μ-loop
+loop-again c =
+    let l = c .before .before .loop in
+    let a = c .before .before .before .before .before .before .args in (
+      omega arith,
+      rw (l .inv .1, add-one) (moved-turn (a .bytes .now) (a .from) (a .end) (l .i) (omega arith)),
+      rw length-set (l .inv .2),
+    )
+
+same-length : tie.Need-same-length Inv-loop μ-loop
+same-length c = c .before .loop .inv .2
+
+returns-2 : tie.Need-returns-2 Inv-loop μ-loop
+returns-2 c =
+    let a = c .before .before .before .before .before .args in
+    let l = c .before .loop in
+    (omega (arith, between-size (a .bytes .now) (a .from) (a .end)), l .inv .1 ∙ moved-all (a .bytes .now) (a .from) (a .end) (l .i) (omega arith))
+
+pub to-front-spec : {M : Type 1} → statement M
+to-front-spec =
+    tie.close
+    (tie.spec
+    Inv-loop
+    μ-loop
+    least-requires
+    returns
+    sub-count
+    loop-holds
+    add-bytes
+    slice-read-bytes
+    slice-write-bytes
+    add-i
+    loop-less
+    loop-again
+    same-length
+    returns-2)

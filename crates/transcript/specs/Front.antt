@@ -1,0 +1,13 @@
+-- A part of a list moved to its front, as the bench program keeps a record that has not come whole.
+-- Assumes nothing.
+use Prim.Native.Nat.{ℕ, _-_}
+use mathlib.Core.List.{List}
+use lib.ListN.{take, drop}
+use Rattle.octets.specs.Bytes.{laid}
+
+-- the bytes from place `from` up to place `end`; where there are none, nothing
+unfoldable pub between : List ℕ → ℕ → ℕ → List ℕ
+between s from end = take (end - from) (drop from s)
+
+unfoldable pub movedOf : List ℕ → ℕ → ℕ → List ℕ
+movedOf s from end = laid s 0 (between s from end)

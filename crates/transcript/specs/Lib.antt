@@ -1,0 +1,4 @@
+pub mod Frame
+pub mod Transcript
+pub mod Turns
+pub mod Front

@@ -1,0 +1,40 @@
+// One frame to one line: the arrival, the counts, and the line put to the output.
+use crate::line;
+use crate::state;
+use crate::state::State;
+ghost use mathlib.Core.Path.{_≡_};
+ghost use Rattle.transcript.specs.Frame.{frameOf, left, lined};
+
+// The state after a frame, and the place behind its line.
+pub struct Framed {
+    pub state: State,
+    pub behind: usize,
+}
+
+// The frame's line put to place `at` of the output. Where it does not fit nothing is written, and the place stays.
+pub fn frame_line(
+    before: State,
+    memory: &mut [u8],
+    frame: &[u8],
+    output: &mut [u8],
+    at: usize,
+) -> Framed
+    ensures { λ r. ⌜ left r (now (memory .exit)) (now (output .exit)) ≡ lined (frameOf before (now (memory .entry)) (now (frame .entry))) (now (output .entry)) at ⌝ }
+{
+    let receiver = before.receiver;
+    let outcome = rack::from_smbus(frame, state::ADDRESS, receiver, memory);
+    let arrived = outcome.arrived;
+    let after = outcome.receiver;
+    let arrivals = state::one_more(before.arrivals);
+    let packets = state::with_packet(arrived, before.packets);
+    let line = line::line_of(arrived);
+    let behind = records::put_line(output, at, arrivals, line);
+    Framed {
+        state: State {
+            receiver: after,
+            arrivals: arrivals,
+            packets: packets,
+        },
+        behind: behind,
+    }
+}
