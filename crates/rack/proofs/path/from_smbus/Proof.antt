@@ -1,29 +1,9 @@
 -- `rack::path::from_smbus` meets its contract.
 -- Assumes nothing.
 use Rattle.rack.proofs.Carriers.{smbus-none, smbus-packet}
-use mathlib.Core.Path.{ap, sym, _∙_}
-use Rattle.rack.specs.Answers.{left, arrivedOf}
 use borrow.Author.Needs.{needs}
 use Rattle.rack.proofs.path.from_smbus.Statement.{statement}
 use Rattle.rack.proofs.path.from_smbus.Tie as tie
-
-carried-requires : tie.Need-carried-requires
-carried-requires c κs = search needs
-
-enum-known-carried : tie.Need-enum-known-carried
-enum-known-carried c = search needs
-
-no-packet-requires : tie.Need-no-packet-requires
-no-packet-requires c κs = search needs
-
-enum-known-carried-2 : tie.Need-enum-known-carried-2
-enum-known-carried-2 c = search needs
-
-part-requires : tie.Need-part-requires
-part-requires c κs = search needs
-
-give-requires : tie.Need-give-requires
-give-requires c κs = search needs
 
 returns : tie.Need-returns
 returns c =
@@ -31,9 +11,6 @@ returns c =
     let told = c .before .before .carried2 .given in
     let carried = c .before .before .before .before .carried in
     rw (c .no-packet .ensures, smbus-none 64 (a .frame .now) (a .own) (carried .result) (carried .ensures) (told .0 .0) (told .1))
-
-same-length : tie.Need-same-length
-same-length c = search needs
 
 returns-2 : tie.Need-returns-2
 returns-2 c =
@@ -46,12 +23,12 @@ pub from-smbus-spec : {M : Type 1} → statement M
 from-smbus-spec =
     tie.close
     (tie.spec
-    carried-requires
-    enum-known-carried
-    no-packet-requires
-    enum-known-carried-2
-    part-requires
-    give-requires
+    (λ c κs. search needs)
+    (λ c. search needs)
+    (λ c κs. search needs)
+    (λ c. search needs)
+    (λ c κs. search needs)
+    (λ c κs. search needs)
     returns
-    same-length
+    (λ c. search needs)
     returns-2)
