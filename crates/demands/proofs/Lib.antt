@@ -5,3 +5,4 @@ pub mod CutRings
 pub mod Demands
 pub mod Checked
 pub mod Useless
+pub mod Determined
