@@ -9,7 +9,8 @@ use native.Mathlib.Numerals.{add-one}
 use native.Mathlib.Omega.{arith}
 use borrow.Author.Tests.{le-leb, lt-leb}
 use lib.ListN.{length, getD, take, drop, length-append, length-drop, take-append-drop, drop-of-length-le}
-use lib.Seq.{length-take-le, take-append-seam, drop-append-seam, drop-cons, drop-drop, take-add}
+use lib.Seq.{getD-drop, length-take-le, take-append-seam, drop-append-seam, drop-cons, drop-drop, take-add}
+use Rattle.octets.specs.Bytes.{Below}
 use Rattle.records.specs.declared.record.Record.the-variants.{Whole, Cut, End}
 use Rattle.records.specs.Record.{recordAt, joined, Walk, found, walk, recordsOf, restOf, arrivalsIn}
 use Rattle.records.proofs.Records.{Stands, Short, Tells, told}
@@ -111,6 +112,26 @@ walk-split (suc n) (size ∷ s) =
 pub records-split : (s : List ℕ) → joined (recordsOf s) ++ restOf s ≡ s
 unfolding recordsOf restOf
 records-split s = walk-split (length s) s
+
+-- behind the whole records stands the rest
+pub rest-behind : (s : List ℕ) → drop (length (joined (recordsOf s))) s ≡ restOf s
+rest-behind s = ap (drop (length (joined (recordsOf s)))) (sym (records-split s)) ∙ drop-append-seam (joined (recordsOf s)) (restOf s)
+
+-- the rest of a list of bytes is shorter than the longest record: the walk left it because its length byte promises more
+rest-few : (n : ℕ) (s : List ℕ) → Below 256 s → length s ≤ n → length (walk n s .rest) < 256
+unfolding walk
+rest-few zero s bytes h = omega arith
+rest-few (suc n) [] bytes h = omega arith
+rest-few (suc n) (size ∷ s) bytes h =
+    by-cases (decLt (length s) size)
+    (λ (k : length s < size). rw (walk-cut size s k n) (omega (arith, bytes 0)))
+    (λ (k : length s < size → ⊥).
+    rw (walk-whole size s (omega arith) n)
+    (rest-few n (drop size s) (λ (i : ℕ). rw getD-drop (bytes (suc (size + i)))) (rw length-drop (omega arith))))
+
+pub rest-short : (s : List ℕ) → Below 256 s → length (restOf s) < 256
+unfolding restOf
+rest-short s bytes = rest-few (length s) s bytes (omega arith)
 
 -- a list that comes in two parts: the records of the first, then those of what it left with the second behind it
 module _ (s t : List ℕ) where

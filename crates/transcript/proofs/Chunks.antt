@@ -16,7 +16,6 @@ use Rattle.transcript.specs.declared.state.State.{State}
 use Rattle.transcript.specs.declared.taking.Taken.{Taken}
 use Rattle.transcript.specs.Frame.{start}
 use Rattle.transcript.specs.Transcript.{Ran, behindText, run, closed, transcriptOf, packetsIn, Part, partOf, Left, left, chunkOf}
-use Rattle.transcript.specs.Turns.{Turn, cameIn, turnOf, turnsOf}
 use Rattle.transcript.proofs.Parts.{part-more}
 use Rattle.transcript.proofs.Runs.{behind-both, run-append, run-arrivals, run-packets, Took, took}
 
@@ -40,60 +39,33 @@ module _ (room : ℕ) (s : State) (m input : List ℕ) where
       ∙ ap (take (length (joined (t .taken)))) whole
       ∙ take-append-seam (joined (t .taken)) (joined (t .rest) ++ restOf input)
 
-  -- the rest of the input, and whatever comes behind it, goes on where the part ended
-  pub part-then : (later : List ℕ)
-      → run s m (recordsOf (input ++ later)) ≡ behindText (partOf room s m (recordsOf input) .ran .text) (run (partOf room s m (recordsOf input) .ran .state) (partOf room s m (recordsOf input) .ran .memory) (recordsOf (drop (partOf room s m (recordsOf input) .read) input ++ later)))
-  part-then later =
-      let on = recordsOf (drop (partOf room s m (recordsOf input) .read) input ++ later) in
-      ap (run s m) (records-passed input later (partOf room s m (recordsOf input) .read) (t .taken) passed)
+  -- the frames left are those of the rest of the input
+  left-over : recordsOf input ≡ t .taken ++ recordsOf (drop (partOf room s m (recordsOf input) .read) input)
+  left-over =
+      ap recordsOf (sym (append-nil input))
+      ∙ records-passed input [] (partOf room s m (recordsOf input) .read) (t .taken) passed
+      ∙ ap (λ (l : List ℕ). t .taken ++ recordsOf l) (append-nil (drop (partOf room s m (recordsOf input) .read) input))
+
+  -- the rest of the input goes on where the part ended
+  pub part-then : run s m (recordsOf input) ≡ behindText (partOf room s m (recordsOf input) .ran .text) (run (partOf room s m (recordsOf input) .ran .state) (partOf room s m (recordsOf input) .ran .memory) (recordsOf (drop (partOf room s m (recordsOf input) .read) input)))
+  part-then =
+      let on = recordsOf (drop (partOf room s m (recordsOf input) .read) input) in
+      ap (run s m) left-over
       ∙ run-append s m (t .taken) on
       ∙ ap (λ (r : Ran). behindText (r .text) (run (r .state) (r .memory) on)) (sym (t .ran))
+
+  pub part-reads : length (joined (recordsOf input)) ≡ partOf room s m (recordsOf input) .read + length (joined (recordsOf (drop (partOf room s m (recordsOf input) .read) input)))
+  part-reads =
+      let on = recordsOf (drop (partOf room s m (recordsOf input) .read) input) in
+      ap (λ (l : List (List ℕ)). length (joined l)) left-over
+      ∙ ap length (joined-append (t .taken) on)
+      ∙ length-append (joined (t .taken)) (joined on)
+      ∙ ap (λ (n : ℕ). n + length (joined on)) (sym (t .read))
 
 -- with room for a line, a part stops only where no frame is left
 pub part-stops : (room : ℕ) (s : State) (m : List ℕ) (frames : List (List ℕ)) → 86 ≤ room → partOf room s m frames .read ≡ 0 → frames ≡ []
 part-stops room s m [] h e = refl
 part-stops room s m (f ∷ frames) h e = absurd (omega (arith, ap (λ (p : Part). p .read) (part-more s m room f frames h)))
-
--- a chunk stays within the input and the output, and its lines stand at the output's front
-module _ (s : State) (m input out : List ℕ) where
-  lines : List ℕ
-  lines = partOf (length out) s m (recordsOf input) .ran .text
-
-  pub chunk-read : chunkOf s m input out .read ≤ length input
-  unfolding chunkOf
-  chunk-read = omega (arith, part-within (length out) s m input)
-
-  pub chunk-written : chunkOf s m input out .written ≤ length out
-  unfolding chunkOf
-  chunk-written = omega (arith, took (length out) s m (recordsOf input) .fits)
-
-  pub chunk-text : take (chunkOf s m input out .written) (chunkOf s m input out .output) ≡ partOf (length out) s m (recordsOf input) .ran .text
-  unfolding chunkOf fronted lines
-  chunk-text =
-      rw (zero-add (length lines), laid-front out lines (took (length out) s m (recordsOf input) .fits)) (take-append-seam lines (drop (length lines) out))
-
--- however the input is cut and however much room there is: the turns' lines are the first of the whole input's
-pub turns-then : (s : State) (m held : List ℕ) (turns : List Turn)
-    → run s m (recordsOf (held ++ cameIn turns)) ≡ behindText (turnsOf s m held turns .ran .text) (run (turnsOf s m held turns .ran .state) (turnsOf s m held turns .ran .memory) (recordsOf (turnsOf s m held turns .held)))
-unfolding cameIn turnsOf turnOf
-turns-then s m held [] = ap (λ (l : List ℕ). run s m (recordsOf l)) (append-nil held)
-turns-then s m held (t ∷ turns) =
-    let one = turnOf s m held t in
-    ap (λ (l : List ℕ). run s m (recordsOf l)) (sym (append-assoc held (t .came) (cameIn turns)))
-    ∙ part-then (t .room) s m (held ++ t .came) (cameIn turns)
-    ∙ ap (behindText (one .ran .text)) (turns-then (one .ran .state) (one .ran .memory) (one .held) turns)
-    ∙ behind-both (one .ran .text) _ _
-
--- and once no whole record is held, they are all of them: the chunks joined, and the last line, are the transcript
-pub turns-transcript : (m : List ℕ) (turns : List Turn) → recordsOf (turnsOf start m [] turns .held) ≡ []
-    → transcriptOf m (cameIn turns) ≡ closed (turnsOf start m [] turns .ran)
-unfolding transcriptOf run
-turns-transcript m turns none =
-    let w = turnsOf start m [] turns in
-    ap closed
-    (turns-then start m [] turns
-    ∙ ap (λ (l : List (List ℕ)). behindText (w .ran .text) (run (w .ran .state) (w .ran .memory) l)) none
-    ∙ (λ i. record { state = w .ran .state; memory = w .ran .memory; text = append-nil (w .ran .text) i }))
 
 -- the last line tells the whole records, and those of them that hold a packet
 pub transcript-counts : (m input : List ℕ) → arrivalsIn input ≤ 18446744073709551615
@@ -102,32 +74,32 @@ unfolding transcriptOf arrivalsIn
 transcript-counts m input h =
     rw (run-arrivals start m (recordsOf input) (omega arith), run-packets start m (recordsOf input) (omega arith), zero-add (length (recordsOf input)), zero-add (packetsIn (recordsOf input)))
 
--- as the call answers
-pub chunk-within : {t : Taken} {m' out' : List ℕ} (s : State) (m input out : List ℕ) → left t m' out' ≡ chunkOf s m input out
-    → (t .read ≤ length input) × (t .written ≤ length out)
-chunk-within s m input out e =
-    let read = ap (λ (l : Left). l .read) e in
-    let written = ap (λ (l : Left). l .written) e in
-    (omega (arith, chunk-read s m input out), omega (arith, chunk-written s m input out))
+-- as the call answers: within its bounds, its lines sent on, and the rest of the input to come
+pub record Chunked (s : State) (m input out : List ℕ) (t : Taken) (after written : List ℕ) : Type 0 where
+  pub text : List ℕ
+  pub front : take (t .written) written ≡ text
+  pub runs : run s m (recordsOf input) ≡ behindText text (run (t .state) after (recordsOf (drop (t .read) input)))
+  pub reads : length (joined (recordsOf input)) ≡ t .read + length (joined (recordsOf (drop (t .read) input)))
+  pub inside : t .read ≤ length input
+  pub fits : t .written ≤ length out
+  pub stops : t .read ≡ 0 → recordsOf input ≡ []
 
--- a chunk of what is held and what came is a turn
-pub record SameTurn (s : State) (m held came out : List ℕ) : Type 0 where
-  pub state : chunkOf s m (held ++ came) out .state ≡ turnOf s m held (record { came = came; room = length out }) .ran .state
-  pub memory : chunkOf s m (held ++ came) out .memory ≡ turnOf s m held (record { came = came; room = length out }) .ran .memory
-  pub text : take (chunkOf s m (held ++ came) out .written) (chunkOf s m (held ++ came) out .output) ≡ turnOf s m held (record { came = came; room = length out }) .ran .text
-  pub rest : drop (chunkOf s m (held ++ came) out .read) (held ++ came) ≡ turnOf s m held (record { came = came; room = length out }) .held
-
-pub chunk-turn : (s : State) (m held came out : List ℕ) → SameTurn s m held came out
-unfolding chunkOf turnOf
-chunk-turn s m held came out =
+pub chunked : {t : Taken} {after written : List ℕ} (s : State) (m input out : List ℕ) → 86 ≤ length out
+    → left t after written ≡ chunkOf s m input out → Chunked s m input out t after written
+unfolding chunkOf fronted
+chunked {t} {after} {written} s m input out room e =
+    let p = partOf (length out) s m (recordsOf input) in
+    let state = ap (λ (l : Left). l .state) e in
+    let memory = ap (λ (l : Left). l .memory) e in
+    let read : t .read ≡ p .read = ap (λ (l : Left). l .read) e ∙ zero-add (p .read) in
+    let size : t .written ≡ length (p .ran .text) = ap (λ (l : Left). l .written) e ∙ zero-add (length (p .ran .text)) in
+    let output = ap (λ (l : Left). l .output) e ∙ laid-front out (p .ran .text) (took (length out) s m (recordsOf input) .fits) in
     record {
-      state = refl;
-      memory = refl;
-      text = chunk-text s m (held ++ came) out;
-      rest = ap (λ (n : ℕ). drop n (held ++ came)) (zero-add (partOf (length out) s m (recordsOf (held ++ came)) .read));
+      text = p .ran .text;
+      front = rw (size, output) (take-append-seam (p .ran .text) (drop (length (p .ran .text)) out));
+      runs = rw (state, memory, read) (part-then (length out) s m input);
+      reads = rw read (part-reads (length out) s m input);
+      inside = omega (arith, part-within (length out) s m input);
+      fits = omega (arith, took (length out) s m (recordsOf input) .fits);
+      stops = λ (none : t .read ≡ 0). part-stops (length out) s m (recordsOf input) room (sym read ∙ none);
     }
-
--- with room for a line, a chunk that takes nothing leaves no whole record
-pub chunk-stops : (s : State) (m input out : List ℕ) → 86 ≤ length out → chunkOf s m input out .read ≡ 0 → recordsOf input ≡ []
-unfolding chunkOf
-chunk-stops s m input out h e = part-stops (length out) s m (recordsOf input) h (omega arith)

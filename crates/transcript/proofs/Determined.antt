@@ -13,6 +13,7 @@ use Rattle.transcript.proofs.state.set_up.Reads as set-up
 use Rattle.transcript.proofs.frame.frame_line.Reads as frame-line
 use Rattle.transcript.proofs.taking.chunk.Reads as chunk
 use Rattle.transcript.proofs.front.to_front.Reads as to-front
+use Rattle.transcript.proofs.last.last_line.Reads as last-line
 
 pub set-up-determined : (κs : Lfts 0) (a : _) (r q : State) (e f : _) → set-up.Post κs a r e → set-up.Post κs a q f → r ≡ q
 set-up-determined κs a r q e f p o = determined p o
@@ -32,3 +33,7 @@ chunk-determined κs a r q e f p o =
 pub to-front-determined : (κs : Lfts 1) (a : _) (r q : ℕ) (e f : _) → to-front.Post κs a r e → to-front.Post κs a q f
     → (r ≡ q) × (e .0 .now ≡ f .0 .now)
 to-front-determined κs a r q e f p o = (determined (p .0) (o .0), determined (p .1) (o .1))
+
+pub last-line-determined : (κs : Lfts 1) (a : _) (r q : ℕ) (e f : _) → last-line.Post κs a r e → last-line.Post κs a q f
+    → (r ≡ q) × (e .1 .0 .now ≡ f .1 .0 .now)
+last-line-determined κs a r q e f p o = (determined (p .0) (o .0), determined (p .1) (o .1))

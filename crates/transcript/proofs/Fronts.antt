@@ -6,7 +6,7 @@ use Prim.Native.Nat.{ℕ, suc, _+_, _-_, _≤_, _<_, min}
 use native.Mathlib.Nat.{zero-add}
 use native.Mathlib.Omega.{arith}
 use lib.ListN.{length, getD, take, drop, set, length-take, length-drop}
-use lib.Seq.{getD-take, getD-drop, length-take-le, take-all, take-append-seam}
+use lib.Seq.{getD-take, getD-drop, length-take-le, take-all, take-add, take-append-seam, drop-at}
 use Rattle.octets.specs.Bytes.{laid, fronted}
 use Rattle.octets.proofs.Laid.{laid-turn, laid-front}
 use Rattle.receiver.proofs.Laid.{laid-behind}
@@ -20,6 +20,12 @@ module _ (s : List ℕ) (from end : ℕ) where
   pub between-size : length (between s from end) ≡ min end (length s) - from
   unfolding between
   between-size = simp (length-take, length-drop) (omega arith)
+
+  pub between-is : from ≤ end → from ≤ length s → between s from end ≡ drop from (take end s)
+  unfolding between
+  between-is h k =
+      let all : from + (end - from) ≡ end = omega arith in
+      sym (drop-at (take from s) (take (end - from) (drop from s)) from (length-take-le from s k)) ∙ ap (drop from) (sym (take-add from (end - from) s) ∙ ap (λ (n : ℕ). take n s) all)
 
   -- where nothing stands there, nothing moves
   pub moved-none : min end (length s) ≤ from → (0 ≡ length (between s from end)) × (s ≡ movedOf s from end)

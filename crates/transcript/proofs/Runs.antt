@@ -15,7 +15,8 @@ use Rattle.smbus.specs.Reading.{refusalOf}
 use Rattle.rack.specs.declared.answer.Known.{Known}
 use Rattle.rack.specs.Arrivals as carrier
 use Rattle.rack.specs.Answers.{arrivedOf}
-use Rattle.records.specs.Record.{recordOf, joined}
+use Rattle.records.specs.Record.{recordOf, joined, recordsOf, restOf}
+use Rattle.records.proofs.Walks.{records-append}
 use Rattle.transcript.specs.declared.state.State.{State}
 use Rattle.transcript.specs.Frame.{ownAddress, oneMore, withPacket, frameOf}
 use Rattle.transcript.specs.Transcript.{Ran, behindText, run, packetsIn, Part, noFrame, partOf}
@@ -35,6 +36,11 @@ run-append s m [] b = refl
 run-append s m (f ∷ a) b =
     ap (behindText (frameOf s m f .line)) (run-append (frameOf s m f .state) (frameOf s m f .memory) a b)
     ∙ behind-both (frameOf s m f .line) _ _
+
+-- however the input is cut: the rest of the first part goes on with the second behind it
+pub run-cut : (s : State) (m a b : List ℕ)
+    → run s m (recordsOf (a ++ b)) ≡ behindText (run s m (recordsOf a) .text) (run (run s m (recordsOf a) .state) (run s m (recordsOf a) .memory) (recordsOf (restOf a ++ b)))
+run-cut s m a b = ap (run s m) (records-append a b) ∙ run-append s m (recordsOf a) (recordsOf (restOf a ++ b))
 
 -- a count that does not stop
 more-is : (n : ℕ) → n < 18446744073709551615 → oneMore n ≡ n + 1

@@ -28,9 +28,13 @@ run s m [] = record { state = s; memory = m; text = [] }
 run s m (frame ∷ frames) =
     behindText (frameOf s m frame .line) (run (frameOf s m frame .state) (frameOf s m frame .memory) frames)
 
+-- the last line of a state: its two counts
+abbrev pub closing : State → List ℕ
+closing s = lastLine (s .arrivals) (s .packets)
+
 -- the lines, and then the last one
 abbrev pub closed : Ran → List ℕ
-closed r = r .text ++ lastLine (r .state .arrivals) (r .state .packets)
+closed r = r .text ++ closing (r .state)
 
 -- all that the bench program writes on an input, from a given memory
 unfoldable pub transcriptOf : List ℕ → List ℕ → List ℕ

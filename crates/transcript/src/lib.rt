@@ -1,6 +1,7 @@
 // The bench program's work: frames from records to lines, with the receiver and the two counts.
 mod frame;
 mod front;
+mod last;
 mod line;
 mod state;
 mod taking;
@@ -8,6 +9,7 @@ mod taking;
 pub use frame::Framed;
 pub use frame::frame_line;
 pub use front::to_front;
+pub use last::last_line;
 pub use state::ADDRESS;
 pub use state::OWN;
 pub use state::State;
