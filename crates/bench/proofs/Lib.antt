@@ -1,1 +1,6 @@
-pub mod Lines
+pub mod Sends
+pub mod Drains
+pub mod Fills
+pub mod Closings
+pub mod Turns
+pub mod Runs

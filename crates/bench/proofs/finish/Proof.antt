@@ -1,44 +1,37 @@
--- `bench::finish` is safe: the last line ends within the output.
+-- `bench::finish` meets its contract.
 -- Assumes nothing.
-use Rattle.records.specs.Line.{lastLine}
+use mathlib.Core.Path.{ap}
+use native.Mathlib.Nat.{sub-zero}
 use native.Mathlib.Omega.{arith}
-use Rattle.bench.proofs.Lines.{place-within}
 use borrow.Author.Needs.{needs}
+use lib.ListN.{length}
+use Rattle.bench.proofs.Closings.{closing-fits, closing-size, closing-front}
 use Rattle.bench.proofs.finish.Statement.{statement}
 use Rattle.bench.proofs.finish.Tie as tie
 
-put-last-line-requires : tie.Need-put-last-line-requires
-put-last-line-requires c κs = search needs
-
-sub-write-all : tie.Need-sub-write-all
-sub-write-all c = search needs
-
-part-write-all-start : tie.Need-part-write-all-start
-part-write-all-start c = search needs
-
-part-write-all-end : tie.Need-part-write-all-end
-part-write-all-end c =
-    let call = c .before .before .before .put-last-line in
-    let a = c .before .before .before .before .before .before .args in
-    omega (arith, call .ensures .0, call .kept .0, place-within (a .output .now) 0 (lastLine (a .state .arrivals) (a .state .packets)) (omega arith))
-
-write-all-requires : tie.Need-write-all-requires
-write-all-requires c κs = search needs
-
-same-length : tie.Need-same-length
-same-length c = search needs
+part-send-end : tie.Need-part-send-end
+part-send-end c =
+    let call = c .before .before .before .last-line in
+    let s = c .before .before .before .before .before .before in
+    omega (arith, call .ensures .0, call .kept .1 .0, closing-size (s .args .state) (s .args .output .now) (s .pre), closing-fits (s .args .state) (s .args .output .now) (s .pre))
 
 returns : tie.Need-returns
-returns c = search needs
+returns c =
+    let call = c .before .before .before .before .before .last-line in
+    let s = c .before .before .before .before .before .before .before .before in
+    record {
+      line = call .ensures .1;
+      sent = rw (sub-zero (call .result), call .ensures .0, call .ensures .1, closing-front (s .args .state) (s .args .output .now) (s .pre)) at (c .send .ensures);
+    }
 
 pub finish-spec : {M : Type 1} → statement M
 finish-spec =
     tie.close
     (tie.spec
-    put-last-line-requires
-    sub-write-all
-    part-write-all-start
-    part-write-all-end
-    write-all-requires
-    same-length
+    (λ c κs. search needs)
+    (λ c. search needs)
+    (λ c. search needs)
+    part-send-end
+    (λ c κs. search needs)
+    (λ c. search needs)
     returns)

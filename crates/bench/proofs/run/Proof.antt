@@ -1,6 +1,6 @@
--- `bench::run` is safe and ends: the bytes held lie in the input buffer. The measure is the number of turns that are left.
+-- `bench::run` meets its contract. The loop's invariant: all is as after the parts that came. The measure is the number of turns that are left.
 -- Assumes nothing.
-use mathlib.Core.Path.{_≡_, refl, _∙_}
+use mathlib.Core.Path.{_≡_, refl, sym, _∙_}
 use Prim.Native.Nat.{_≤_, _<_}
 use borrow.Author.Tests.{ltb-true}
 use lib.Dec.{ltb}
@@ -8,33 +8,44 @@ use Rattle.octets.proofs.Choice.{both}
 use native.Mathlib.Omega.{arith}
 use borrow.Author.Needs.{needs}
 use lib.ListN.{length}
+use Rattle.bench.proofs.Runs.{Along, along-start, along-turn, run-failed, run-finished}
 use Rattle.bench.proofs.run.Statement.{statement}
 use Rattle.bench.proofs.run.Tie as tie
 
 abbrev Inv-loop : tie.InvT-loop
 Inv-loop memory₀ input₀ output₀ last₀ turns₀ memory input output last turns =
-    (last .held ≤ length input) × (length memory ≡ length memory₀) × (length input ≡ length input₀) × (length output ≡ length output₀)
+    Along memory₀ last turns memory input × (length memory ≡ length memory₀) × (length input ≡ length input₀) × (length output ≡ length output₀)
 
 abbrev μ-loop : tie.MeasureT-loop
 μ-loop memory₀ input₀ output₀ last₀ turns₀ memory input output last turns = turns
 
+-- the loop's head, from behind a turn, and from behind the last line
+abbrev head : tie.After-slice-known6 Inv-loop μ-loop → tie.At-loop Inv-loop μ-loop
+head c = c .before .before .before .before .before .before .before .before .before .before .before .before
+
+abbrev end : tie.After-slice-known7 Inv-loop μ-loop → tie.At-loop Inv-loop μ-loop
+end c = c .before .before .before .before .before .before .before .before .before
+
+-- what the caller promised
+abbrev begin : tie.At-loop Inv-loop μ-loop → tie.Start Inv-loop μ-loop
+begin c = c .before .before .before .before .before .before
+
 -- a turn is left
-again : (c : tie.After-slice-known6 Inv-loop μ-loop) → 0 < c .before .before .before .before .before .before .before .before .before .before .before .before .loop .turns
+again : (c : tie.After-slice-known6 Inv-loop μ-loop) → 0 < head c .loop .turns
 again c =
-    let l = c .before .before .before .before .before .before .before .before .before .before .before .before .loop in
+    let l = head c .loop in
     ltb-true 0 (l .turns) (both (l .last .more) (ltb 0 (l .turns)) (c .before .before .before .before .before .before .before .before .before .before .if1 .taken) .1)
 
-set-up-requires : tie.Need-set-up-requires Inv-loop μ-loop
-set-up-requires c κs = tt
-
 loop-holds : tie.Need-loop-holds Inv-loop μ-loop
-loop-holds c = (omega arith, refl, refl, refl)
+loop-holds c = (rw (c .before .set-up .ensures, c .nothing .ensures) (along-start _ _), refl, refl, refl)
 
 turn-requires : tie.Need-turn-requires Inv-loop μ-loop
-turn-requires c κs = search needs
+turn-requires c κs =
+    let h = c .before .before .before .before .before in
+    (h .loop .inv .0 .few, omega (arith, h .loop .inv .2, begin h .pre .1), omega (arith, h .loop .inv .3, begin h .pre .2))
 
 sub-turns : tie.Need-sub-turns Inv-loop μ-loop
-sub-turns c = omega (arith, again c)
+sub-turns c = again c
 
 loop-less : tie.Need-loop-less Inv-loop μ-loop
 loop-less c = omega (arith, again c)
@@ -42,35 +53,39 @@ loop-less c = omega (arith, again c)
 loop-again : tie.Need-loop-again Inv-loop μ-loop
 loop-again c =
     let turn = c .before .before .before .before .before .before .turn in
-    let l = c .before .before .before .before .before .before .before .before .before .before .before .before .loop in
-    (omega (arith, turn .ensures, turn .kept .1 .1 .0), turn .kept .1 .0 ∙ l .inv .1, turn .kept .1 .1 .0 ∙ l .inv .2, turn .kept .1 .1 .1 .0 ∙ l .inv .3)
-
-finish-requires : tie.Need-finish-requires Inv-loop μ-loop
-finish-requires c κs = tt
+    let l = head c .loop in
+    (along-turn (l .inv .0) (again c) (turn .ensures), turn .kept .1 .0 ∙ l .inv .1, turn .kept .1 .1 .0 ∙ l .inv .2, turn .kept .1 .1 .1 .0 ∙ l .inv .3)
 
 same-length : tie.Need-same-length Inv-loop μ-loop
-same-length c = c .before .before .before .before .before .before .before .loop .inv .1
+same-length c = c .before .before .before .before .before .loop .inv .1
 
 same-length-2 : tie.Need-same-length-2 Inv-loop μ-loop
-same-length-2 c = c .before .before .before .before .before .before .before .loop .inv .2
+same-length-2 c = c .before .before .before .before .before .loop .inv .2
 
 same-length-3 : tie.Need-same-length-3 Inv-loop μ-loop
-same-length-3 c = c .before .before .finish .kept .1 .0 ∙ c .before .before .before .before .before .before .before .loop .inv .3
+same-length-3 c = c .before .before .before .before .before .loop .inv .3
 
 returns : tie.Need-returns Inv-loop μ-loop
-returns c = tt
+returns c = run-failed (c .before .before .before .before .before .loop .inv .0) _
+
+finish-requires : tie.Need-finish-requires Inv-loop μ-loop
+finish-requires c κs =
+    let h = c .before .before .before .before .before .before in
+    omega (arith, h .loop .inv .3, begin h .pre .2)
 
 same-length-4 : tie.Need-same-length-4 Inv-loop μ-loop
-same-length-4 c = c .before .before .before .loop .inv .1
+same-length-4 c = end c .loop .inv .1
 
 same-length-5 : tie.Need-same-length-5 Inv-loop μ-loop
-same-length-5 c = c .before .before .before .loop .inv .2
+same-length-5 c = end c .loop .inv .2
 
 same-length-6 : tie.Need-same-length-6 Inv-loop μ-loop
-same-length-6 c = c .before .before .before .loop .inv .3
+same-length-6 c = c .before .before .finish .kept .1 .0 ∙ end c .loop .inv .3
 
 returns-2 : tie.Need-returns-2 Inv-loop μ-loop
-returns-2 c = tt
+returns-2 c =
+    let l = end c .loop in
+    run-finished (l .inv .0) (omega (arith, l .inv .3, begin (end c) .pre .2)) (c .before .before .before .before .if2 .left) (c .before .before .before .before .before .before .before .if1 .left) (c .before .before .finish .ensures)
 
 pub run-spec : {M : Type 1} → statement M
 run-spec =
@@ -78,17 +93,18 @@ run-spec =
     (tie.spec
     Inv-loop
     μ-loop
-    set-up-requires
+    (λ c κs. tt)
+    (λ c κs. tt)
     loop-holds
     turn-requires
     sub-turns
     loop-less
     loop-again
-    finish-requires
     same-length
     same-length-2
     same-length-3
     returns
+    finish-requires
     same-length-4
     same-length-5
     same-length-6

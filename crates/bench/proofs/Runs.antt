@@ -1,0 +1,115 @@
+-- Turn after turn: the state, the memory and the bytes held are those of all that came so far, however it was cut.
+-- Assumes nothing.
+use mathlib.Core.Path.{_≡_, refl, ap, sym, _∙_}
+use mathlib.Core.Bool.{Bool, true, false, not, _&&_, false≢true}
+use mathlib.Core.List.{List, [], _∷_, _++_}
+use Prim.Native.Nat.{ℕ, _+_, _-_, _≤_, _<_}
+use native.Mathlib.Nat.{zero-add}
+use native.Mathlib.Omega.{arith}
+use borrow.Author.Tests.{ltb-false}
+use lib.Dec.{ltb}
+use lib.ListN.{length, take, length-append}
+use Rattle.octets.proofs.Choice.{both}
+use Rattle.records.specs.Record.{recordsOf, restOf}
+use Rattle.records.proofs.Walks.{records-none, rest-none, rest-append}
+use Rattle.transcript.specs.declared.state.State.{State}
+use Rattle.transcript.specs.Frame.{start}
+use Rattle.transcript.specs.Transcript.{Ran, behindText, run, closing, transcriptOf}
+use Rattle.transcript.specs.Turns.{cameIn, goesOn}
+use Rattle.transcript.proofs.Runs.{run-cut}
+use Rattle.bench.specs.declared.sending.Sent.{Sent}
+use Rattle.bench.specs.declared.Turned.{Turned}
+use Rattle.bench.specs.Sending.{nothingSent, Sends}
+use Rattle.bench.specs.Program.{Finishes, Turns, Runs}
+use Rattle.bench.proofs.Sends.{sends-none, sends-both}
+use Rattle.bench.proofs.Closings.{closing-size, closing-front}
+
+-- so far, with so many turns left
+pub record Along (m₀ : List ℕ) (t : Turned) (left : ℕ) (m input : List ℕ) : Type 0 where
+  pub parts : List (List ℕ)
+  pub state : t .state ≡ run start m₀ (recordsOf (cameIn parts)) .state
+  pub memory : m ≡ run start m₀ (recordsOf (cameIn parts)) .memory
+  pub sent : Sends nothingSent (length (run start m₀ (recordsOf (cameIn parts)) .text)) (t .sent)
+  pub held : take (t .held) input ≡ restOf (cameIn parts)
+  pub few : t .held < 256
+  pub more : t .more ≡ ((not (t .failed) && not (t .sent .failed)) && goesOn parts)
+  pub turns : left + length parts ≡ 18446744073709551615
+
+pub along-start : (m₀ input : List ℕ)
+    → Along m₀ (record { state = start; held = 0; sent = nothingSent; failed = false; more = true }) 18446744073709551615 m₀ input
+unfolding cameIn run
+along-start m₀ input =
+    let ran = ap (run start m₀) records-none in
+    record {
+      parts = [];
+      state = sym (ap (λ (r : Ran). r .state) ran);
+      memory = sym (ap (λ (r : Ran). r .memory) ran);
+      sent = rw ran (sends-none nothingSent);
+      held = sym rest-none;
+      few = omega arith;
+      more = refl;
+      turns = omega arith;
+    }
+
+module _ {m₀ : List ℕ} {t : Turned} {left : ℕ} {m input : List ℕ} (a : Along m₀ t left m input) where
+  ran : Ran
+  ran = run start m₀ (recordsOf (cameIn (a .parts)))
+
+  -- one turn more: what came stands behind all that came before
+  pub along-turn : {u : Turned} {m' input' : List ℕ} → 0 < left → Turns (t .state) m (take (t .held) input) (t .sent) u m' input'
+      → Along m₀ u (left - 1) m' input'
+  unfolding cameIn ran
+  along-turn {u} {m'} {input'} h k =
+      let here : run (t .state) m (recordsOf (take (t .held) input ++ k .came)) ≡ run (ran .state) (ran .memory) (recordsOf (restOf (cameIn (a .parts)) ++ k .came)) =
+      λ i. run (a .state i) (a .memory i) (recordsOf (a .held i ++ k .came)) in
+      let whole = run-cut start m₀ (cameIn (a .parts)) (k .came) ∙ ap (behindText (ran .text)) (sym here) in
+      record {
+        parts = k .came ∷ a .parts;
+        state = k .state ∙ sym (ap (λ (r : Ran). r .state) whole);
+        memory = k .memory ∙ sym (ap (λ (r : Ran). r .memory) whole);
+        sent = rw (whole, length-append) (sends-both (a .sent) (k .sent));
+        held = k .rest ∙ ap (λ (l : List ℕ). restOf (l ++ k .came)) (a .held) ∙ sym (rest-append (cameIn (a .parts)) (k .came));
+        few = k .few;
+        more = k .more;
+        turns = omega (arith, a .turns);
+      }
+
+  -- a read failed: no last line
+  pub run-failed : (out : List ℕ) → Runs m₀ (record { state = t .state; sent = t .sent; failed = true }) m out
+  run-failed out =
+      record {
+        parts = a .parts;
+        state = a .state;
+        memory = a .memory;
+        sent = a .sent;
+        line = λ (e : true ≡ false). absurd (false≢true (sym e));
+        over = λ (e : false ≡ true). absurd (false≢true e);
+      }
+
+  -- nothing failed and the input has not ended, but no turn is left
+  used-up : t .failed ≡ false → t .sent .failed ≡ false → goesOn (a .parts) ≡ true → (t .more && ltb 0 left) ≡ false
+      → length (a .parts) ≡ 18446744073709551615
+  used-up read sent goes stopped =
+      let more : t .more ≡ true = a .more ∙ rw (read, sent, goes) in
+      omega (arith, ltb-false 0 left (rw more at stopped), a .turns)
+
+  not-failed : (b : Bool) → not b ≡ true → b ≡ false
+  not-failed true e = absurd (false≢true e)
+  not-failed false e = refl
+
+  -- and otherwise the last line
+  pub run-finished : {out out' : List ℕ} {later : Sent} → 86 ≤ length out → t .failed ≡ false → (t .more && ltb 0 left) ≡ false
+      → Finishes (t .state) out (t .sent) later out' → Runs m₀ (record { state = t .state; sent = later; failed = false }) m out'
+  unfolding transcriptOf
+  run-finished {out} {out'} {later} room read stopped f =
+      let size = closing-size (t .state) out room ∙ zero-add (length (closing (t .state))) in
+      record {
+        parts = a .parts;
+        state = a .state;
+        memory = a .memory;
+        sent = rw (length-append, ← a .state) (sends-both (a .sent) (f .sent));
+        line = λ (e : false ≡ false). rw (f .line, ← size) (closing-front (t .state) out room);
+        over = λ (e : ((true && not (later .failed)) && goesOn (a .parts)) ≡ true).
+            let h = both (not (later .failed)) (goesOn (a .parts)) e in
+            used-up read (f .sent .whole (not-failed (later .failed) (h .0)) .0) (h .1) stopped;
+      }

@@ -1,0 +1,34 @@
+-- `bench::fill` meets its contract.
+-- Assumes nothing.
+use native.Mathlib.Omega.{arith}
+use borrow.Author.Needs.{needs}
+use Rattle.bench.proofs.Fills.{filled}
+use Rattle.bench.proofs.fill.Statement.{statement}
+use Rattle.bench.proofs.fill.Tie as tie
+
+returns : tie.Need-returns
+returns c =
+    let read = c .before .before .before .before .before .before .before .before .before in
+    filled _ (read .read .last .1 .0) _ (c .before .before .before .before .before .count .result) _ (omega arith) (c .before .before .before .before .before .count .ensures .0 .0)
+
+returns-2 : tie.Need-returns-2
+returns-2 c =
+    let read = c .before .before .before .before .before .before .before in
+    filled _ (read .read .last .1 .0) _ (c .before .before .before .count .result) _ (omega arith) (c .before .before .before .count .ensures .0 .0)
+
+pub fill-spec : {M : Type 1} → statement M
+fill-spec =
+    tie.close
+    (tie.spec
+    (λ c. search needs)
+    (λ c. search needs)
+    (λ c. search needs)
+    (λ c κs. search needs)
+    (λ c κs. search needs)
+    (λ c. search needs)
+    (λ c. search needs)
+    (λ c κs. search needs)
+    (λ c. search needs)
+    returns
+    (λ c. search needs)
+    returns-2)
