@@ -10,8 +10,8 @@ use Rattle.descriptor.specs.declared.configuration.Configuration.{Configuration
 use Rattle.descriptor.specs.declared.configuration.Part.{Part}
 use Rattle.descriptor.specs.Configuration.{partPlace, isRing}
 use Rattle.descriptor.specs.Descriptor.{found, outcomeOf}
-use Rattle.descriptor.specs.Window.{partOf}
-use Rattle.descriptor.proofs.Parts.{found-ring-cut}
+use Rattle.window.specs.Window.{partOf}
+use Rattle.window.proofs.Parts.{found-ring-cut}
 use Rattle.ring.specs.Numbers.{setUpRight}
 use Rattle.ring.proofs.Readings.{set-up-holds}
 

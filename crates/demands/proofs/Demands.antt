@@ -21,7 +21,7 @@ use Rattle.descriptor.specs.declared.configuration.Part.{Part}
 use Rattle.descriptor.specs.declared.configuration.Configuration.{Configuration}
 use Rattle.descriptor.specs.Descriptor.{outcomeOf, found}
 use Rattle.descriptor.specs.Configuration.{isRing, partPlace}
-use Rattle.descriptor.specs.Window.{partOf}
+use Rattle.window.specs.Window.{partOf}
 use Rattle.mmbi.specs.Interface.{stateOf, mayRead}
 use Rattle.mmbi.specs.declared.interface.Flags.{Flags}
 use Rattle.ring.specs.Numbers.{lengthRight}

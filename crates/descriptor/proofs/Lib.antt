@@ -1,10 +1,6 @@
 pub mod Places
 pub mod Configurations
-pub mod Parts
 pub mod Refusals
-pub mod LaidWords
-pub mod Stores
 pub mod Ignored
 pub mod Determined
 pub mod Literal
-pub mod Looks

@@ -3,14 +3,16 @@
 use mathlib.Core.Path.{_≡_, refl}
 use mathlib.Core.Bool.{Bool, true, false, not}
 use mathlib.Core.List.{List}
-use mathlib.Core.Logic.{_⊎_, inl, inr, ⊎-elim}
+use mathlib.Core.Logic.{_⊎_, inl, inr, ⊎-elim, by-cases}
 use Prim.Native.Nat.{ℕ, _^_, _≤_, _<_}
 use native.Mathlib.Omega.{arith}
+use native.Mathlib.Decide.{ℕ-discrete}
 use borrow.Author.Tests.{lt-ltb, le-ltb, ltb-false, eqb-true, eq-eqb, ne-eqb, not-false}
 use lib.Dec.{ltb}
 use lib.ListN.{length}
 use Rattle.octets.specs.Choice.{pick}
 use Rattle.octets.proofs.Choice.{passed}
+use Rattle.descriptor.specs.declared.configuration.Configuration.{Configuration}
 use Rattle.descriptor.specs.Configuration.{allowed}
 use Rattle.descriptor.specs.Descriptor.{signatureRight, versionRight, typeRight, configurationIn, refusalOf, found, refused, outcomeOf, Good, FarBase}
 use Rattle.descriptor.proofs.Configurations.{allowed-facts, allowed-holds}
@@ -104,3 +106,14 @@ module _ (s : List ℕ) where
       (λ (e : refusalOf s ≡ 0). absurd (never-far s small (good e) far))
       (λ (e : refusalOf s ≡ 10). e)
       (accepted-or-10 long signed)
+
+-- a configuration that reading has found is allowed in that window
+pub found-allowed : (s : List ℕ) (c : Configuration) → outcomeOf s ≡ found c → allowed (length s) c ≡ true
+found-allowed s c e =
+    by-cases (ℕ-discrete (refusalOf s) 0)
+    (λ (z : refusalOf s ≡ 0).
+    let same : configurationIn s ≡ c = cc (outcome-found s z, e) in
+    rw same at (allowed-holds (length s) (configurationIn s) (good s z .places)))
+    (λ (n : refusalOf s ≡ 0 → ⊥).
+    let no : _≡_ {A = ℕ} 0 1 = cc (outcome-refused s (refusalOf s) (omega arith) refl, e) in
+    absurd (omega arith))

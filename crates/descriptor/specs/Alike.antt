@@ -6,8 +6,9 @@ use mathlib.Core.List.{List, [], _∷_, _++_}
 use lib.ListN.{length, getD, replicate}
 use Rattle.octets.specs.Bytes.{Below}
 
--- How much of each byte is looked at, as a divisor: 256 for all of it, 16 for the low four bits (version, buffer type), 32 for the low five
--- (a base's bits 28..24), 1 for nothing ("Reserved", OS use, interrupts, and all that follows the descriptor)
+-- How much of each byte is looked at, as a divisor: 256 for all of it, 16 for the low four bits (version, buffer
+-- type), 32 for the low five (a base's bits 28..24), 1 for nothing ("Reserved", OS use, interrupts, and all that
+-- follows the descriptor)
 abbrev pub looked : List ℕ
 looked =
     replicate 6 256 ++ (16 ∷ 1 ∷ [])

@@ -1,4 +1,5 @@
--- The descriptor at the window's front (003, Tables 1 and 2), and which ones are accepted (document 01). Fields are big endian (003, 4.2).
+-- The descriptor at the window's front (003, Tables 1 and 2), and which ones are accepted (document 01). Fields are
+-- big endian (003, 4.2).
 -- Assumes nothing.
 use mathlib.Core.Path.{_≡_}
 use Prim.Native.Nat.{ℕ, _*_, _%_, _≤_}
@@ -33,8 +34,8 @@ typeRight s = eqb (getD s 24 0 % 16) 1
 abbrev pub baseAt : List ℕ → ℕ → ℕ
 baseAt s at = wordAt highFirst s at % 536870912 * 8
 
--- Table 1: "8:11 .. B2H_BA", "12:15 .. H2B_BA", "16:19 B2H Buffer Length", "20:23 H2B Buffer Length" ("lengths in bytes");
--- Table 2, from byte 32 on: "0:3 .. H_ROS_P", "4:7 .. H_RWS_P"
+-- Table 1: "8:11 .. B2H_BA", "12:15 .. H2B_BA", "16:19 B2H Buffer Length", "20:23 H2B Buffer Length" ("lengths in
+-- bytes"); Table 2, from byte 32 on: "0:3 .. H_ROS_P", "4:7 .. H_RWS_P"
 unfoldable pub configurationIn : List ℕ → Configuration
 configurationIn s =
     record {

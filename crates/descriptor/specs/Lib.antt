@@ -3,4 +3,3 @@ pub mod Configuration
 pub mod Descriptor
 pub mod Answers
 pub mod Alike
-pub mod Window

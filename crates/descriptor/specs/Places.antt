@@ -3,9 +3,7 @@
 use Prim.Native.Nat.{ℕ, _+_, _≤_}
 use mathlib.Core.Bool.{Bool, _||_}
 use mathlib.Core.Logic.{_⊎_}
-use mathlib.Core.List.{List}
 use lib.Dec.{leb}
-use lib.ListN.{take, drop}
 use Rattle.descriptor.specs.declared.place.Place.{Place}
 
 -- the byte after a place, however many bits its number takes
@@ -23,7 +21,3 @@ apart p q = leb (endOf p) (q .offset) || leb (endOf q) (p .offset)
 -- the same as a fact
 abbrev pub Apart : Place → Place → Type 0
 Apart p q = (endOf p ≤ q .offset) ⊎ (endOf q ≤ p .offset)
-
--- the bytes that stand there
-abbrev pub bytesAt : List ℕ → Place → List ℕ
-bytesAt s p = take (p .length) (drop (p .offset) s)

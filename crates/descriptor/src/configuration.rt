@@ -5,7 +5,8 @@ use crate::place::lies_in;
 ghost use mathlib.Core.Path.{_≡_};
 ghost use Rattle.descriptor.specs.Configuration.{structureAt, descriptorPlace, partPlace, ringRight, inside, clear, allowed};
 
-// B2H and H2B are the rings from the controller to the host and back; `ros` and `rws` are the offsets of Host_ROS and Host_RWS.
+// B2H and H2B are the rings from the controller to the host and back; `ros` and `rws` are the offsets of Host_ROS and
+// Host_RWS.
 pub struct Configuration {
     pub b2h: Place,
     pub h2b: Place,

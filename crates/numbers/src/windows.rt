@@ -8,10 +8,10 @@ use crate::text::put_named;
 use crate::text::put_refused;
 use descriptor::Configuration;
 use descriptor::Configured;
-use descriptor::Interface;
 use descriptor::Part;
-use descriptor::Pointer;
 use mmbi::Word;
+use window::Interface;
+use window::Pointer;
 
 // The window of the base that passes 32 bits, and the smallest that holds everything.
 type Large = [u8; 65536];
@@ -128,7 +128,7 @@ fn put_place(
     c: Configuration,
     which: Part,
 ) -> usize {
-    let place = descriptor::place_of(window, c, which);
+    let place = window::place_of(window, c, which);
     let mut end = put_named(out, at, name, place.length as usize);
     end = put_named(out, end, b" bytes from byte ", place.offset as usize);
     put(out, end, b" on\n")
@@ -182,10 +182,10 @@ fn put_stored(out: &mut Page, at: usize, window: &mut Small, c: Configuration) -
 }
 
 fn store_words(window: &mut Small, c: Configuration) {
-    descriptor::store(window, c, Pointer::H2bWrite, word(12, true, false));
-    descriptor::store(window, c, Pointer::B2hRead, word(8, false, true));
-    descriptor::store(window, c, Pointer::B2hWrite, word(20, true, false));
-    descriptor::store(window, c, Pointer::H2bRead, word(0, false, true));
+    window::store(window, c, Pointer::H2bWrite, word(12, true, false));
+    window::store(window, c, Pointer::B2hRead, word(8, false, true));
+    window::store(window, c, Pointer::B2hWrite, word(20, true, false));
+    window::store(window, c, Pointer::H2bRead, word(0, false, true));
 }
 
 fn put_stored_words(out: &mut Page, at: usize, window: &[u8], c: Configuration) -> usize {
@@ -194,15 +194,15 @@ fn put_stored_words(out: &mut Page, at: usize, window: &[u8], c: Configuration) 
         at,
         b"words H2B write pointer 12, host up, and B2H read pointer 8, host ready, are Host_RWS",
     );
-    end = put_bytes(out, end, descriptor::cut(window, c, Part::Rws));
+    end = put_bytes(out, end, window::cut(window, c, Part::Rws));
     end = put(
         out,
         end,
         b"\nwords B2H write pointer 20, controller up, and H2B read pointer 0, controller ready, are Host_ROS",
     );
-    end = put_bytes(out, end, descriptor::cut(window, c, Part::Ros));
+    end = put_bytes(out, end, window::cut(window, c, Part::Ros));
     end = put(out, end, b"\nwords read back: ");
-    put_seen(out, end, descriptor::look(window, c))
+    put_seen(out, end, window::look(window, c))
 }
 
 fn word(pointer: usize, high: bool, low: bool) -> Word {

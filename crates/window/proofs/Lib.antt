@@ -1,0 +1,6 @@
+pub mod Parts
+pub mod LaidWords
+pub mod Stores
+pub mod Determined
+pub mod Literal
+pub mod Looks

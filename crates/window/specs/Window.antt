@@ -1,0 +1,76 @@
+-- What lies in a window by a configuration, which may be any: one that the window can't have is refused with 1.
+-- Assumes nothing.
+use Prim.Native.Nat.{ℕ, _+_}
+use mathlib.Core.Bool.{Bool, true, false, _&&_}
+use mathlib.Core.List.{List}
+use lib.ListN.{length, take, drop}
+use Rattle.octets.specs.Bytes.{laid}
+use Rattle.octets.specs.Choice.{pick}
+use Rattle.octets.specs.Words.{highFirst, wordAt, wordBytes}
+use Rattle.mmbi.specs.declared.word.Word.{Word}
+use Rattle.mmbi.specs.Interface.{flagsOf}
+use Rattle.mmbi.specs.Words.{wordOf, numberOf}
+use Rattle.descriptor.specs.Configuration.{partPlace, allowed}
+use Rattle.descriptor.specs.declared.place.Place.{Place}
+use Rattle.descriptor.specs.declared.configuration.Configuration.{Configuration}
+use Rattle.descriptor.specs.declared.configuration.Part.{Part}
+use Rattle.window.specs.declared.word.Pointer.{Pointer}
+use Rattle.window.specs.declared.word.Pointer.the-variants.{H2bWrite, B2hRead, B2hWrite, H2bRead}
+use Rattle.window.specs.declared.word.Interface.{Interface}
+
+-- "1 .. setup": the configuration is none that document 01's list lets a window of this size have
+unfoldable pub setupOf : ℕ → Configuration → ℕ
+setupOf window c = pick (allowed window c) 0 1
+
+-- where a part lies; a place of no bytes where refused
+unfoldable pub placeIn : ℕ → Configuration → Part → Place
+placeIn window c part = pick (allowed window c) (partPlace c part) (record { offset = 0; length = 0 })
+
+-- the bytes that stand at a place
+abbrev pub bytesAt : List ℕ → Place → List ℕ
+bytesAt s p = take (p .length) (drop (p .offset) s)
+
+-- the part's bytes; none where refused
+unfoldable pub partOf : List ℕ → Configuration → Part → List ℕ
+partOf s c part = bytesAt s (placeIn (length s) c part)
+
+-- Table 3: "0:3 .. H2B_WP", "4:7 .. B2H_RP" of Host_RWS; Table 4: "0:3 .. B2H_WP", "4:7 .. H2B_RP" of Host_ROS
+abbrev pub wordPlace : Configuration → Pointer → ℕ
+wordPlace c H2bWrite = c .rws
+wordPlace c B2hRead = c .rws + 4
+wordPlace c B2hWrite = c .ros
+wordPlace c H2bRead = c .ros + 4
+
+-- bit 1 is H_UP or B_UP beside a write pointer; beside a read pointer "[1] Reserved"
+abbrev pub hasUp : Pointer → Bool
+hasUp H2bWrite = true
+hasUp B2hRead = false
+hasUp B2hWrite = true
+hasUp H2bRead = false
+
+-- 003, 4.1: reserved bits "shall be written as 0 (zero) and ignored when read"
+unfoldable pub cleared : Pointer → Word → Word
+cleared p w = record { pointer = w .pointer; high = w .high && hasUp p; low = w .low }
+
+-- the word that holds a pointer; where refused the pointer is 0 and the flags are clear
+unfoldable pub wordIn : List ℕ → Configuration → Pointer → Word
+wordIn s c p = cleared p (wordOf (pick (allowed (length s) c) (wordAt highFirst s (wordPlace c p)) 0))
+
+-- all four words, by what they say
+unfoldable pub interfaceIn : List ℕ → Configuration → Interface
+interfaceIn s c =
+    record {
+      flags = flagsOf (wordIn s c B2hWrite .high) (wordIn s c B2hWrite .low) (wordIn s c H2bWrite .high) (wordIn s c H2bWrite .low);
+      b2h = record { read = wordIn s c B2hRead .pointer; write = wordIn s c B2hWrite .pointer };
+      h2b = record { read = wordIn s c H2bRead .pointer; write = wordIn s c H2bWrite .pointer };
+      «host_ready» = wordIn s c B2hRead .low;
+      «controller_ready» = wordIn s c H2bRead .low;
+    }
+
+-- the window after a word is stored: its four bytes, and where refused none
+unfoldable pub stored : List ℕ → Configuration → Pointer → Word → List ℕ
+stored s c p w = pick (allowed (length s) c) (laid s (wordPlace c p) (wordBytes highFirst (numberOf (cleared p w)))) s
+
+-- the window after a pointer alone is stored: the flags are those that stood there
+unfoldable pub storedPointer : List ℕ → Configuration → Pointer → ℕ → List ℕ
+storedPointer s c p at = stored s c p (record { pointer = at; high = wordIn s c p .high; low = wordIn s c p .low })

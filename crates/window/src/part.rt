@@ -1,0 +1,60 @@
+// Where the rings and the structures lie in a window. A configuration is stored state, so any may be handed in with
+// any window.
+use descriptor::Configuration;
+use descriptor::Part;
+use descriptor::Place;
+ghost use mathlib.Core.Path.{_≡_};
+ghost use lib.ListN.{length};
+ghost use Rattle.window.specs.Window.{setupOf, placeIn, partOf};
+
+// 1 where the configuration is not one that this window can have, else 0.
+pub fn refusal(window: &[u8], c: Configuration) -> u8
+    ensures { λ r. ⌜ r ≡ setupOf (length (now (window .entry))) c ⌝ }
+{
+    if descriptor::is_allowed(window.len(), c) {
+        0
+    } else {
+        1
+    }
+}
+
+// Where this part lies; at 0 with no bytes where refused.
+pub fn place_of(window: &[u8], c: Configuration, which: Part) -> Place
+    ensures { λ r. ⌜ r ≡ placeIn (length (now (window .entry))) c which ⌝ }
+{
+    place_in(window.len(), c, which)
+}
+
+fn place_in(window: usize, c: Configuration, which: Part) -> Place
+    ensures { λ r. ⌜ r ≡ placeIn window c which ⌝ }
+{
+    if descriptor::is_allowed(window, c) {
+        descriptor::part_place(c, which)
+    } else {
+        Place {
+            offset: 0,
+            length: 0,
+        }
+    }
+}
+
+// The part itself; empty where refused.
+pub fn cut(window: &[u8], c: Configuration, which: Part) -> &[u8]
+    ensures { λ r. ⌜ now r ≡ partOf (now (window .entry)) c which ⌝ }
+{
+    let p = place_in(window.len(), c, which);
+    let from = p.offset as usize;
+    let to = descriptor::end(p);
+    &window[from..to]
+}
+
+// The part to write to; empty where refused. A contract can't speak of the window once the part is back: who needs
+// that takes the place and lends the part from its own window.
+pub fn cut_mut(window: &mut [u8], c: Configuration, which: Part) -> &mut [u8]
+    ensures { λ r. ⌜ now r ≡ partOf (now (window .entry)) c which ⌝ }
+{
+    let p = place_in(window.len(), c, which);
+    let from = p.offset as usize;
+    let to = descriptor::end(p);
+    &mut window[from..to]
+}

@@ -1,0 +1,138 @@
+// The words of Host_RWS and Host_ROS in a window: read, and stored. Any configuration may be handed in here too.
+use descriptor::Configuration;
+use mmbi::Flags;
+use mmbi::Word;
+ghost use mathlib.Core.Path.{_≡_};
+ghost use lib.ListN.{length};
+ghost use Rattle.octets.specs.Choice.{pick};
+ghost use Rattle.octets.specs.Words.{highFirst, wordAt};
+ghost use Rattle.mmbi.specs.Words.{wordOf};
+ghost use Rattle.window.specs.Window.{wordPlace, hasUp, cleared, interfaceIn, stored, storedPointer};
+
+// The four pointers, by the words that hold them: H2B_WP and B2H_RP in Host_RWS, B2H_WP and H2B_RP in Host_ROS.
+pub enum Pointer {
+    H2bWrite,
+    B2hRead,
+    B2hWrite,
+    H2bRead,
+}
+
+// A ring's pointers, in bytes from its front.
+pub struct Pointers {
+    pub read: usize,
+    pub write: usize,
+}
+
+// Everything that the four words say.
+pub struct Interface {
+    pub flags: Flags,
+    pub b2h: Pointers,
+    pub h2b: Pointers,
+    pub host_ready: bool,
+    pub controller_ready: bool,
+}
+
+fn word_place(c: Configuration, which: Pointer) -> usize
+    ensures { λ r. ⌜ r ≡ wordPlace c which ⌝ }
+{
+    match which {
+        Pointer::H2bWrite => c.rws as usize,
+        Pointer::B2hRead => c.rws as usize + 4,
+        Pointer::B2hWrite => c.ros as usize,
+        Pointer::H2bRead => c.ros as usize + 4,
+    }
+}
+
+fn has_up(which: Pointer) -> bool
+    ensures { λ r. ⌜ r ≡ hasUp which ⌝ }
+{
+    match which {
+        Pointer::H2bWrite => true,
+        Pointer::B2hRead => false,
+        Pointer::B2hWrite => true,
+        Pointer::H2bRead => false,
+    }
+}
+
+// Bit 1 of a word that holds a read pointer is reserved: ignored in reading, 0 in writing.
+fn without_reserved(which: Pointer, word: Word) -> Word
+    ensures { λ r. ⌜ r ≡ cleared which word ⌝ }
+{
+    Word {
+        pointer: word.pointer,
+        high: word.high & has_up(which),
+        low: word.low,
+    }
+}
+
+// The word that holds this pointer, where `ok`; else one of zeros.
+fn word_where(window: &[u8], ok: bool, c: Configuration, which: Pointer) -> Word
+    ensures { λ r. ⌜ r ≡ cleared which (wordOf (pick ok (wordAt highFirst (now (window .entry)) (wordPlace c which)) 0)) ⌝ }
+{
+    if !ok {
+        return Word {
+            pointer: 0,
+            high: false,
+            low: false,
+        };
+    }
+    let n = octets::word_high_first(window, word_place(c, which));
+    without_reserved(which, Word::of_number(n))
+}
+
+// All pointers and flags; the pointers 0 and the flags clear where refused.
+pub fn look(window: &[u8], c: Configuration) -> Interface
+    ensures { λ r. ⌜ r ≡ interfaceIn (now (window .entry)) c ⌝ }
+{
+    let ok = descriptor::is_allowed(window.len(), c);
+    let host = word_where(window, ok, c, Pointer::H2bWrite);
+    let host_second = word_where(window, ok, c, Pointer::B2hRead);
+    let controller = word_where(window, ok, c, Pointer::B2hWrite);
+    let controller_second = word_where(window, ok, c, Pointer::H2bRead);
+    Interface {
+        flags: Flags {
+            controller_up: controller.high,
+            controller_reset: controller.low,
+            host_up: host.high,
+            host_reset: host.low,
+        },
+        b2h: Pointers {
+            read: host_second.pointer,
+            write: controller.pointer,
+        },
+        h2b: Pointers {
+            read: controller_second.pointer,
+            write: host.pointer,
+        },
+        host_ready: host_second.low,
+        controller_ready: controller_second.low,
+    }
+}
+
+// The word, pointer and flags, stored where this pointer is held; where refused nothing is stored.
+pub fn store(window: &mut [u8], c: Configuration, which: Pointer, word: Word)
+    ensures { λ _. ⌜ now (window .exit) ≡ stored (now (window .entry)) c which word ⌝ }
+{
+    if descriptor::is_allowed(window.len(), c) {
+        let n = without_reserved(which, word).number();
+        octets::lay_high_first(window, word_place(c, which), n);
+    }
+}
+
+// The pointer alone, with the flags that stand beside it; where refused nothing is stored.
+pub fn store_pointer(window: &mut [u8], c: Configuration, which: Pointer, pointer: usize)
+    ensures { λ _. ⌜ now (window .exit) ≡ storedPointer (now (window .entry)) c which pointer ⌝ }
+{
+    let ok = descriptor::is_allowed(window.len(), c);
+    let held = word_where(window, ok, c, which);
+    store(
+        window,
+        c,
+        which,
+        Word {
+            pointer,
+            high: held.high,
+            low: held.low,
+        },
+    );
+}
