@@ -11,9 +11,9 @@ use Rattle.mmbi.proofs.States.{flags-0000, flags-1010}
 use Rattle.ring.proofs.Numbers.{numbers-over, numbers-empty, numbers-full}
 use Rattle.slots.specs.Slots.{firstOf, slotOf, lowestFree}
 use Rattle.slots.specs.State.{multiple, rightNumbers, rightSlot, clash, rightState}
-use Rattle.receiver.specs.Checks.{setupRefusal, packetRefusal, sourceRefusal}
-use Rattle.receiver.specs.Rules.{after, onStart, gathered, onFollow, ruled}
-use Rattle.receiver.specs.Decision.{fromSource, fromPacket, decided}
+use Rattle.decision.specs.Checks.{setupRefusal, packetRefusal, sourceRefusal}
+use Rattle.decision.specs.Rules.{after, onStart, gathered, onFollow, ruled}
+use Rattle.decision.specs.Decision.{fromSource, fromPacket, decided}
 use Rattle.receiver.specs.Step.{done, stepOf}
 use Rattle.messages.proofs.Counts.{three-bodies, three-bodies-message}
 use Rattle.rack.specs.declared.answer.Known.the-variants.{Source}

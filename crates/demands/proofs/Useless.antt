@@ -21,9 +21,9 @@ use Rattle.slots.specs.declared.state.Receiver.{Receiver}
 use Rattle.slots.specs.declared.state.SlotState.the-variants.{Free, Gathering}
 use Rattle.slots.specs.Slots.{slotAt, isFree, firstOf, slotOf, lowestFree}
 use Rattle.slots.specs.State.{multiple, rightNumbers, rightSlot, clash, rightState}
-use Rattle.receiver.specs.Checks.{setupRefusal, packetRefusal, sourceRefusal}
-use Rattle.receiver.specs.Rules.{after, onStart, gathered, onFollow, ruled}
-use Rattle.receiver.specs.Decision.{fromSource, fromPacket, decided}
+use Rattle.decision.specs.Checks.{setupRefusal, packetRefusal, sourceRefusal}
+use Rattle.decision.specs.Rules.{after, onStart, gathered, onFollow, ruled}
+use Rattle.decision.specs.Decision.{fromSource, fromPacket, decided}
 use Rattle.receiver.specs.Step as rules
 use Rattle.rack.specs.declared.answer.Known.{Known}
 use Rattle.rack.specs.Arrivals.{Arrival, bySmbus, byPcc, byRing, Carried, Without, packet, carries}

@@ -13,9 +13,9 @@ use Rattle.slots.specs.declared.state.Receiver.{Receiver}
 use Rattle.slots.specs.Slots.{firstOf, slotOf, lowestFree}
 use Rattle.slots.specs.State.{multiple, rightNumbers, rightSlot, clash, rightState}
 use Rattle.slots.specs.Changes.{fresh, freedOf}
-use Rattle.receiver.specs.Checks.{setupRefusal, packetRefusal, sourceRefusal}
-use Rattle.receiver.specs.Rules.{after, onStart, gathered, onFollow, ruled}
-use Rattle.receiver.specs.Decision.{fromSource, fromPacket, decided}
+use Rattle.decision.specs.Checks.{setupRefusal, packetRefusal, sourceRefusal}
+use Rattle.decision.specs.Rules.{after, onStart, gathered, onFollow, ruled}
+use Rattle.decision.specs.Decision.{fromSource, fromPacket, decided}
 use Rattle.receiver.specs.Step.{refused, held, done, stepOf}
 use Rattle.messages.specs.Run.{give, free, rules, freed, run, runPackets}
 

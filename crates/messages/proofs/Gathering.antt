@@ -26,13 +26,13 @@ use Rattle.slots.specs.Changes.{withState}
 use Rattle.slots.proofs.States.{right-of, most-bounds, slot-same, slot-other}
 use Rattle.slots.proofs.Found.{holds-key, slot-of-is}
 use Rattle.slots.proofs.Numbers.{gathering-of}
-use Rattle.receiver.specs.Checks.{setupRefusal, packetRefusal, sourceRefusal}
-use Rattle.receiver.specs.Rules.{put, refuse, after, onStart, gathered, follow, onFollow, ruled}
-use Rattle.receiver.specs.Decision.{fromSource, fromPacket, decided}
+use Rattle.decision.specs.Checks.{setupRefusal, packetRefusal, sourceRefusal}
+use Rattle.decision.specs.Rules.{put, refuse, after, onStart, gathered, follow, onFollow, ruled}
+use Rattle.decision.specs.Decision.{fromSource, fromPacket, decided}
+use Rattle.decision.proofs.Checks.{packet-good, unless-good}
+use Rattle.decision.proofs.Cases.{ruled-start, ruled-follow}
+use Rattle.decision.proofs.Decided.{every-decision}
 use Rattle.receiver.specs.Step.{refused, held, done, Left, carried, stepOf}
-use Rattle.receiver.proofs.Checks.{packet-good, unless-good}
-use Rattle.receiver.proofs.Cases.{ruled-start, ruled-follow}
-use Rattle.receiver.proofs.Decided.{every-decision}
 use Rattle.receiver.proofs.Laid.{part-grown}
 use Rattle.receiver.proofs.Laws.{step-right, one-slot, refused-unchanged}
 use Rattle.messages.specs.Run.{Call, give, free, message, called}

@@ -22,10 +22,10 @@ use Rattle.slots.specs.State.{rightState}
 use Rattle.slots.specs.Changes.{Kept, withState, freedOf}
 use Rattle.slots.proofs.States.{slot-other}
 use Rattle.slots.proofs.Kept.{freed-right}
+use Rattle.decision.proofs.Picked.{pick-elim}
+use Rattle.decision.proofs.Decided.{every-decision}
 use Rattle.receiver.specs.Step.{answerOf, carried, stepOf}
 use Rattle.receiver.specs.Effects.{OneSlot}
-use Rattle.receiver.proofs.Picked.{pick-elim}
-use Rattle.receiver.proofs.Decided.{every-decision}
 use Rattle.receiver.proofs.Laid.{laid-before, laid-behind, part-same}
 use Rattle.receiver.proofs.Laws.{step-right, one-slot}
 use Rattle.messages.specs.Run.{Call, give, free, message, Ran, called, joined, run, intoSlot, untouched}

@@ -17,8 +17,8 @@ use Rattle.slots.specs.declared.state.Receiver.{Receiver}
 use Rattle.slots.specs.declared.state.SlotState.the-variants.{Free}
 use Rattle.slots.specs.Slots.{slotAt, slotOf, lowestFree}
 use Rattle.slots.specs.State.{rightState}
-use Rattle.receiver.specs.Checks.{packetRefusal, sourceRefusal}
-use Rattle.receiver.specs.Rules.{wrongUnit}
+use Rattle.decision.specs.Checks.{packetRefusal, sourceRefusal}
+use Rattle.decision.specs.Rules.{wrongUnit}
 use Rattle.receiver.specs.Step.{refused, held, done, stepOf}
 use Rattle.messages.specs.Run.{Call, give, free, Reply, rules, Ran, called}
 

@@ -18,18 +18,16 @@ use Rattle.slots.specs.State.{rightState}
 use Rattle.slots.specs.Changes.{withState}
 use Rattle.slots.proofs.States.{right-of, right-holds, with-right, slot-other}
 use Rattle.slots.proofs.Kept.{free-right}
-use Rattle.receiver.specs.declared.rules.Plan.{Plan}
-use Rattle.receiver.specs.declared.rules.Plan.the-variants.{Refuse, Release, Put}
+use Rattle.decision.specs.declared.rules.Plan.{Plan}
+use Rattle.decision.specs.Rules.{planned}
+use Rattle.decision.specs.Decision.{decided}
+use Rattle.decision.proofs.Decided.{every-decision}
 use Rattle.receiver.specs.declared.giving.Answer.{Answer}
 use Rattle.receiver.specs.declared.giving.Answer.the-variants.{Refused, Held, Done}
 use Rattle.receiver.specs.declared.giving.Given.{Given}
-use Rattle.receiver.specs.Rules.{Decision, planned}
-use Rattle.receiver.specs.Decision.{decided}
-use Rattle.receiver.specs.Possible.{Possible}
 use Rattle.receiver.specs.Effects.{Unchanged, SlotFreed, OneSlot}
 use Rattle.receiver.specs.Step.{refused, says, Left, left, answerOf, carried, stepOf}
 use Rattle.receiver.proofs.Laid.{laid-before, laid-behind}
-use Rattle.receiver.proofs.Decided.{every-decision}
 
 -- giving a packet is the decision carried out
 pub step-is-decision : (most : ℕ) (r : Receiver) (m p : List ℕ) → stepOf most r m p ≡ carried r m p (decided most r (length m) p)
@@ -39,14 +37,6 @@ step-is-decision most r m p = refl
 -- and so is what any plan allowed by the contract of `decide` says
 pub step-is-plan : (most : ℕ) (r : Receiver) (m p : List ℕ) (plan : Plan) → planned plan ≡ decided most r (length m) p → stepOf most r m p ≡ carried r m p (planned plan)
 step-is-plan most r m p plan e = step-is-decision most r m p ∙ ap (carried r m p) (sym e)
-
--- every decision can be carried out
-pub decision-possible : (most : ℕ) (r : Receiver) (size : ℕ) (p : List ℕ) → Possible p (decided most r size p)
-decision-possible most r size p =
-    every-decision most r size p (Possible p)
-    (λ n low high. (low, high))
-    (λ e i n h low high k. (h, low, high))
-    (λ e s i at again then f. (f .slot, omega (arith, f .size), f .place))
 
 -- a right state stays right
 pub step-right : (most : ℕ) (r : Receiver) (m p : List ℕ) → rightState most r ≡ true → rightState most (stepOf most r m p .receiver) ≡ true
@@ -120,21 +110,7 @@ one-slot most r m p =
 zero-not-one : _≡_ {A = ℕ} 0 1 → ⊥
 zero-not-one z = omega arith
 
--- a plan and an answer are told by their number and values
-planned-injective : (a b : Plan) → planned a ≡ planned b → a ≡ b
-planned-injective (Refuse r) (Refuse s) e = ap Refuse (number-injective r s (cc))
-planned-injective (Refuse r) (Release j s) e = absurd (zero-not-one (cc))
-planned-injective (Refuse r) (Put j b g t) e = absurd (zero-not-one (cc))
-planned-injective (Release i r) (Refuse s) e = absurd (zero-not-one (cc))
-planned-injective (Release i r) (Release j s) e =
-    let slot : i ≡ j = cc in
-    let refusal = number-injective r s (cc) in
-    λ k. Release (slot k) (refusal k)
-planned-injective (Release i r) (Put j b g t) e = absurd (zero-not-one (cc))
-planned-injective (Put i a f s) (Refuse t) e = absurd (zero-not-one (cc))
-planned-injective (Put i a f s) (Release j t) e = absurd (zero-not-one (cc))
-planned-injective (Put i a f s) (Put j b g t) e = cc
-
+-- an answer is told by its number and values
 says-injective : (a b : Answer) → says a ≡ says b → a ≡ b
 says-injective (Refused r) (Refused s) e = ap Refused (number-injective r s (cc))
 says-injective (Refused r) (Held j b g) e = absurd (zero-not-one (cc))
@@ -145,10 +121,6 @@ says-injective (Held i a f) (Done j b g) e = absurd (zero-not-one (cc))
 says-injective (Done i a f) (Refused s) e = absurd (zero-not-one (cc))
 says-injective (Done i a f) (Held j b g) e = absurd (zero-not-one (cc))
 says-injective (Done i a f) (Done j b g) e = cc
-
--- two results that the contract of `decide` allows are equal
-pub decide-determined : (a b : Plan) (d : Decision) → planned a ≡ d → planned b ≡ d → a ≡ b
-decide-determined a b d p q = planned-injective a b (p ∙ sym q)
 
 -- two results that the contract of `give` allows are equal, and so are the bytes of the two memories
 pub give-determined : (a b : Given) (m n : List ℕ) (l : Left) → left a m ≡ l → left b n ≡ l → (a ≡ b) × (m ≡ n)

@@ -1,6 +1,2 @@
-pub mod Checks
-pub mod Cases
-pub mod Picked
-pub mod Decided
 pub mod Laid
 pub mod Laws

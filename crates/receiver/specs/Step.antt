@@ -1,4 +1,5 @@
--- A packet given to the message rules: the decision carried out, with the answer, the receiver and every byte of the memory.
+-- A packet given to the message rules: the decision carried out, with the answer, the receiver and every byte of the
+-- memory.
 -- Assumes nothing.
 use Prim.Native.Nat.{ℕ, _+_, _*_}
 use mathlib.Core.Bool.{Bool}
@@ -11,13 +12,14 @@ use Rattle.slots.specs.declared.state.SlotState.{SlotState}
 use Rattle.slots.specs.declared.state.SlotState.the-variants.{Free, Gathering}
 use Rattle.slots.specs.declared.state.Receiver.{Receiver}
 use Rattle.slots.specs.Changes.{withState}
+use Rattle.decision.specs.Rules.{Decision, refuse, release, put}
+use Rattle.decision.specs.Decision.{decided}
 use Rattle.receiver.specs.declared.giving.Answer.{Answer}
 use Rattle.receiver.specs.declared.giving.Answer.the-variants.{Refused, Held, Done}
 use Rattle.receiver.specs.declared.giving.Given.{Given}
-use Rattle.receiver.specs.Rules.{Decision, refuse, release, put}
-use Rattle.receiver.specs.Decision.{decided}
 
--- what is answered: a refusal's number; "held, with slot and bytes held"; "done, with slot and length"; the last is "again"
+-- what is answered: a refusal's number; "held, with slot and bytes held"; "done, with slot and length"; the last is
+-- "again"
 pub data Said : Type 0 where
   refused : ℕ → Said
   held : ℕ → ℕ → Bool → Said
@@ -38,13 +40,15 @@ pub record Left : Type 0 where
 abbrev pub left : Given → List ℕ → Left
 left g m = record { said = says (g .answer); receiver = g .receiver; memory = m }
 
--- "With end set the answer is done, with slot and length, and the slot is free... Without end: held, with slot and bytes held."
+-- "With end set the answer is done, with slot and length, and the slot is free... Without end: held, with slot and
+-- bytes held."
 abbrev pub answerOf : SlotState → ℕ → ℕ → Bool → Said
 answerOf Free slot bytes again = done slot bytes again
 answerOf (Gathering key sequence unit now) slot bytes again = held slot bytes again
 
--- a decision carried out. "1, 2 .. 15, 16, 17, 18, 19: number; all unchanged"; "20, 21, 22: number; that slot becomes free, memory
--- unchanged". "message memory of exactly 4,096 lent bytes, 1,024 for each slot": slot i has those from 1,024 × i on.
+-- a decision carried out. "1, 2 .. 15, 16, 17, 18, 19: number; all unchanged"; "20, 21, 22: number; that slot becomes
+-- free, memory unchanged". "message memory of exactly 4,096 lent bytes, 1,024 for each slot": slot i has those from
+-- 1,024 × i on.
 abbrev pub carried : Receiver → List ℕ → List ℕ → Decision → Left
 carried r m p (refuse n) = record { said = refused n; receiver = r; memory = m }
 carried r m p (release slot n) = record { said = refused n; receiver = withState r slot Free; memory = m }

@@ -1,6 +1,5 @@
 // A packet given to the message rules: decided on, and the decision carried out. Only here is the memory touched.
-use crate::decision::decide_within;
-use crate::rules::Plan;
+use decision::Plan;
 use mctp::Refusal;
 use slots::Receiver;
 use slots::SlotState;
@@ -9,7 +8,7 @@ ghost use Prim.Native.Nat.{_<_, _^_};
 ghost use lib.ListN.{length};
 ghost use Rattle.octets.specs.Bytes.{laid};
 ghost use Rattle.mctp.specs.Packet.{bodyOf};
-ghost use Rattle.receiver.specs.Rules.{planned};
+ghost use Rattle.decision.specs.Rules.{planned};
 ghost use Rattle.receiver.specs.Step.{says, answerOf, left, carried, stepOf};
 
 pub enum Answer {
@@ -102,7 +101,7 @@ fn carry_out(receiver: Receiver, memory: &mut [u8], packet: &[u8], plan: Plan) -
 fn give_within(most: usize, receiver: Receiver, memory: &mut [u8], packet: &[u8]) -> Given
     ensures { λ r. ⌜ left r (now (memory .exit)) ≡ stepOf most receiver (now (memory .entry)) (now (packet .entry)) ⌝ }
 {
-    let plan = decide_within(most, receiver, memory.len(), packet);
+    let plan = decision::decide_within(most, receiver, memory.len(), packet);
     carry_out(receiver, memory, packet, plan)
 }
 

@@ -1,10 +1,6 @@
-// The message rules: a packet is decided on, and then the decision is carried out.
-mod decision;
+// A packet given to the message rules: the decision on it carried out.
 mod giving;
-mod rules;
 
-pub use decision::decide;
 pub use giving::Answer;
 pub use giving::Given;
 pub use giving::give;
-pub use rules::Plan;

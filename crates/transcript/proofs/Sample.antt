@@ -13,9 +13,9 @@ use Rattle.slots.specs.declared.state.SlotState.the-variants.{Free}
 use Rattle.slots.specs.Slots as slots
 use Rattle.slots.specs.State as state
 use Rattle.slots.specs.Changes.{fresh}
-use Rattle.receiver.specs.Checks as checks
-use Rattle.receiver.specs.Rules as rules
-use Rattle.receiver.specs.Decision.{fromSource, fromPacket, decided}
+use Rattle.decision.specs.Checks as checks
+use Rattle.decision.specs.Rules as rules
+use Rattle.decision.specs.Decision.{fromSource, fromPacket, decided}
 use Rattle.receiver.specs.Step.{stepOf}
 use Rattle.rack.specs.declared.answer.Known.the-variants.{Source}
 use Rattle.rack.specs.Arrivals.{packet, none, refused, smbusCarries}

@@ -1,0 +1,5 @@
+pub mod Checks
+pub mod Cases
+pub mod Picked
+pub mod Decided
+pub mod Determined

@@ -1,0 +1,4 @@
+pub mod Checks
+pub mod Rules
+pub mod Decision
+pub mod Possible

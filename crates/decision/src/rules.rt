@@ -1,0 +1,139 @@
+// What the rules make of a packet that no check refused: start, or not start. Nothing here sees the memory or the
+// body's bytes.
+use mctp::Header;
+use mctp::Refusal;
+use slots::Receiver;
+use slots::SlotState;
+ghost use mathlib.Core.Path.{_≡_};
+ghost use Rattle.decision.specs.Rules.{planned, after, wrongUnit, onStart, gathered, follow, onFollow, ruled};
+
+// What is to be done with a packet.
+pub enum Plan {
+    Refuse {
+        refusal: Refusal,
+    },
+    // The slot becomes free.
+    Release {
+        slot: u8,
+        refusal: Refusal,
+    },
+    // The body goes into the slot behind its first `at` bytes; `then` is the slot's state afterwards.
+    Put {
+        slot: u8,
+        at: u16,
+        again: bool,
+        then: SlotState,
+    },
+}
+
+fn state_after(header: Header, unit: u8, held: u16) -> SlotState
+    ensures { λ r. ⌜ r ≡ after header unit held ⌝ }
+{
+    if header.end {
+        return SlotState::Free;
+    }
+    let key = header.key;
+    SlotState::Gathering {
+        key: key,
+        sequence: header.sequence,
+        unit: unit,
+        held: held,
+    }
+}
+
+fn on_start(receiver: Receiver, header: Header, body: u8) -> Plan
+    ensures { λ r. ⌜ planned r ≡ onStart (receiver .slots) header body ⌝ }
+{
+    let then = state_after(header, body, body as u16);
+    let own = slots::slot_of(receiver, header.key);
+    if own < 4 {
+        return Plan::Put {
+            slot: own,
+            at: 0,
+            again: true,
+            then: then,
+        };
+    }
+    let free = slots::lowest_free(receiver);
+    if free < 4 {
+        return Plan::Put {
+            slot: free,
+            at: 0,
+            again: false,
+            then: then,
+        };
+    }
+    Plan::Refuse {
+        refusal: Refusal::NoSlot,
+    }
+}
+
+fn is_wrong(end: bool, unit: u8, body: u8) -> bool
+    ensures { λ r. ⌜ r ≡ wrongUnit end unit body ⌝ }
+{
+    if end { unit < body } else { body != unit }
+}
+
+fn gather(slot: u8, sequence: u8, unit: u8, held: u16, header: Header, body: u8) -> Plan
+    ensures { λ r. ⌜ planned r ≡ gathered slot sequence unit held header body ⌝ }
+{
+    let next = (sequence as u32 + 1) % 4;
+    let got = header.sequence as u32;
+    if got != next {
+        return Plan::Release {
+            slot: slot,
+            refusal: Refusal::Sequence,
+        };
+    }
+    if is_wrong(header.end, unit, body) {
+        return Plan::Release {
+            slot: slot,
+            refusal: Refusal::Unit,
+        };
+    }
+    let total = held as u32 + body as u32;
+    if 1024 < total {
+        return Plan::Release {
+            slot: slot,
+            refusal: Refusal::TooLong,
+        };
+    }
+    Plan::Put {
+        slot: slot,
+        at: held,
+        again: false,
+        then: state_after(header, unit, total as u16),
+    }
+}
+
+fn follow_in(slot: u8, state: SlotState, header: Header, body: u8) -> Plan
+    ensures { λ r. ⌜ planned r ≡ follow slot state header body ⌝ }
+{
+    match state {
+        SlotState::Free => Plan::Refuse {
+            refusal: Refusal::NoStart,
+        },
+        SlotState::Gathering {
+            key: _,
+            sequence,
+            unit,
+            held,
+        } => { gather(slot, sequence, unit, held, header, body) }
+    }
+}
+
+fn on_follow(receiver: Receiver, header: Header, body: u8) -> Plan
+    ensures { λ r. ⌜ planned r ≡ onFollow (receiver .slots) header body ⌝ }
+{
+    let slot = slots::slot_of(receiver, header.key);
+    follow_in(slot, slots::state_at(receiver, slot as usize), header, body)
+}
+
+pub fn rule(receiver: Receiver, header: Header, body: u8) -> Plan
+    ensures { λ r. ⌜ planned r ≡ ruled (receiver .slots) header body ⌝ }
+{
+    if header.start {
+        return on_start(receiver, header, body);
+    }
+    on_follow(receiver, header, body)
+}
