@@ -22,6 +22,16 @@ unfolding laid
 laid-append l at [] b = rw add-zero
 laid-append l at (x ∷ a) b = rw (laid-append (set l at x) (suc at) a b, suc-add, add-suc)
 
+-- four bytes, one after the other
+pub laid-four : (l : List ℕ) (at a b c d : ℕ)
+    → laid (laid (laid (laid l at (a ∷ [])) (at + 1) (b ∷ [])) (at + 2) (c ∷ [])) (at + 3) (d ∷ []) ≡ laid l at (a ∷ b ∷ c ∷ d ∷ [])
+unfolding laid
+laid-four l at a b c d =
+    let one : at + 1 ≡ suc at = omega arith in
+    let two : at + 2 ≡ suc (suc at) = omega arith in
+    let three : at + 3 ≡ suc (suc (suc at)) = omega arith in
+    rw (one, two, three)
+
 -- a turn of the loop that copies
 pub laid-turn : (l : List ℕ) (at : ℕ) (new : List ℕ) (i : ℕ) → i < length new
     → set (laid l at (take i new)) (at + i) (getD new i 0) ≡ laid l at (take (suc i) new)

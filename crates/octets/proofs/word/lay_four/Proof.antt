@@ -1,13 +1,7 @@
 -- `octets::word::lay_four` meets its contract.
 -- Assumes nothing.
-use mathlib.Core.Path.{_≡_, sym, _∙_}
-use Prim.Native.Nat.{_+_, suc}
-use mathlib.Core.Path.{sym, _∙_}
-use native.Mathlib.Omega.{arith}
-use Rattle.octets.specs.Bytes.{laid}
 use mathlib.Core.Path.{sym}
-use native.Mathlib.Numerals.{add-one}
-use Rattle.octets.proofs.Laid.{laid-past}
+use Rattle.octets.proofs.Laid.{laid-past, laid-four}
 use borrow.Author.Needs.{needs}
 use Rattle.octets.proofs.word.lay_four.Statement.{statement}
 use Rattle.octets.proofs.word.lay_four.Tie as tie
@@ -40,13 +34,13 @@ same-length : tie.Need-same-length
 same-length c = search needs
 
 returns-2 : tie.Need-returns-2
-unfolding laid
 returns-2 c =
-    let a = c .before .before .before .before .before .before .before .before .before .before .before .before .before .before .before .before .before .before .args in
-    let one : a .at + 1 ≡ suc (a .at) = omega arith in
-    let two : a .at + 2 ≡ suc (suc (a .at)) = omega arith in
-    let three : a .at + 3 ≡ suc (suc (suc (a .at))) = omega arith in
-    cc
+    let fourth = c .before .before in
+    let third = fourth .before .before .before .before in
+    let second = third .before .before .before .before in
+    let first = second .before .before .before .before in
+    rw (fourth .lay-byte4 .ensures, third .lay-byte3 .ensures, second .lay-byte2 .ensures, first .lay-byte .ensures)
+    (laid-four _ _ _ _ _ _)
 
 pub lay-four-spec : {M : Type 1} → statement M
 lay-four-spec =
