@@ -1,7 +1,7 @@
 -- Which frames get which number: a law for each, from plain facts, in the order of the checks; and what good means.
 -- Assumes nothing.
-use mathlib.Core.Path.{_≡_}
-use mathlib.Core.Bool.{false, not}
+use mathlib.Core.Path.{_≡_, refl, _∙_}
+use mathlib.Core.Bool.{Bool, true, false, not, _&&_, true≢false}
 use mathlib.Core.List.{List}
 use Prim.Native.Nat.{ℕ, _+_, _/_, _%_, _≤_, _<_}
 use borrow.Author.Tests.{lt-ltb, le-ltb, ltb-false, eq-eqb, ne-eqb, eqb-true, not-false}
@@ -49,6 +49,15 @@ module _ (most : ℕ) (frame : List ℕ) (own : ℕ) where
         (pick (not (eqb (endOf frame) (pecOf (beforeEnd frame)))) 8 0)))))
     unfolding refusalOf
     front = rw (within-holds 64 246 most (sized .least) (sized .largest), le-ltb 127 own (sized .address), within-holds 10 (9 + most) (length frame) (sized .short) (sized .long))
+
+    -- 4: "bit 0 set, or not ours"
+    pub refused-destination : (eqb (getD frame 0 0 % 2) 0 && eqb (getD frame 0 0 / 2) own) ≡ false → refusalOf most frame own ≡ 4
+    refused-destination h = front ∙ either (eqb (getD frame 0 0 % 2) 0) (eqb (getD frame 0 0 / 2) own) _ h
+      where
+        either : (a b : Bool) (n : ℕ) → (a && b) ≡ false → pick (not a) 4 (pick (not b) 4 n) ≡ 4
+        either true true n e = absurd (true≢false e)
+        either true false n e = refl
+        either false b n e = refl
 
     -- 4: "bit 0 set"
     pub refused-bit : (getD frame 0 0 % 2 ≡ 0 → ⊥) → refusalOf most frame own ≡ 4

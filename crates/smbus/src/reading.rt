@@ -3,8 +3,11 @@ use crate::answer::Carried;
 use crate::limits::lies_within;
 use mctp::Refusal;
 ghost use mathlib.Core.Path.{_≡_};
-ghost use Prim.Native.Nat.{_<_};
-ghost use Rattle.smbus.specs.Reading.{refusalOf, packetOf, sourceAddressOf, partOf, Sized};
+ghost use Prim.Native.Nat.{_≤_, _<_};
+ghost use lib.Dec.{eqb};
+ghost use lib.ListN.{length};
+ghost use Rattle.pec.specs.Remainder.{pecOf};
+ghost use Rattle.smbus.specs.Reading.{endOf, beforeEnd, refusalOf, packetOf, sourceAddressOf, partOf, Sized};
 ghost use Rattle.smbus.specs.Answers.{saysCarried, carriedOf};
 
 // The packet as a part of the lent frame; empty where the frame is refused.
@@ -83,10 +86,8 @@ fn carried_sized(most: usize, frame: &[u8], own: u8) -> Carried
     let command = frame[1];
     let count = wide(frame[2]);
     let sender = frame[3];
-    if destination % 2 != 0 {
-        return Carried::Refused(Refusal::Address);
-    }
-    if destination / 2 != own {
+    let ours = (destination % 2 == 0) & (destination / 2 == own);
+    if !ours {
         return Carried::Refused(Refusal::Address);
     }
     if command != 0x0F {
@@ -98,11 +99,19 @@ fn carried_sized(most: usize, frame: &[u8], own: u8) -> Carried
     if sender % 2 != 1 {
         return Carried::Refused(Refusal::SourceBit);
     }
-    let end = frame.len() - 1;
-    if frame[end] != pec::pec(&frame[0..end]) {
+    if !ends_right(frame) {
         return Carried::Refused(Refusal::Pec);
     }
     Carried::Packet { source: sender / 2 }
+}
+
+// Whether the last byte is the PEC of all bytes before it.
+fn ends_right(frame: &[u8]) -> bool
+    requires { ⌜ 10 ≤ length (now frame) ⌝ }
+    ensures { λ r. ⌜ r ≡ eqb (endOf (now (frame .entry))) (pecOf (beforeEnd (now (frame .entry)))) ⌝ }
+{
+    let end = frame.len() - 1;
+    frame[end] == pec::pec(&frame[0..end])
 }
 
 fn wide(b: u8) -> usize

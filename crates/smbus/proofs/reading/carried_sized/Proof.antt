@@ -1,15 +1,12 @@
 -- `smbus::reading::carried_sized` meets its contract: each return is the law of its number.
 -- Assumes nothing.
 use mathlib.Core.Path.{_≡_, sym, ap, _∙_}
-use mathlib.Core.List.{List}
-use Prim.Native.Nat.{ℕ, _-_}
-use native.Mathlib.Nat.{sub-zero}
-use native.Mathlib.Omega.{arith}
-use lib.ListN.{length, take}
+use Prim.Native.Nat.{ℕ, _+_}
+use lib.ListN.{getD}
+use borrow.Author.Tests.{eqb-true, eqb-false, not-true, not-false}
+use Rattle.octets.proofs.Choice.{both}
 use Rattle.mctp.specs.declared.refusal.Refusal.the-variants.{Address, Command, Count, SourceBit, Pec}
-use Rattle.pec.specs.Remainder.{pecOf}
-use Rattle.smbus.specs.Reading.{endOf, beforeEnd}
-use Rattle.smbus.proofs.Refusing.{refused-bit, refused-address, refused-command, refused-count, refused-source, refused-check, passed-all}
+use Rattle.smbus.proofs.Refusing.{refused-destination, refused-command, refused-count, refused-source, refused-check, passed-all}
 use Rattle.smbus.proofs.Answering.{says-refused, says-good}
 use borrow.Author.Needs.{needs}
 use Rattle.smbus.proofs.reading.carried_sized.Statement.{statement}
@@ -30,68 +27,73 @@ wide-requires c κs = search needs
 shared-slice-read-sender : tie.Need-shared-slice-read-sender
 shared-slice-read-sender c = search needs
 
+-- the start, from where the four bytes are read
+abbrev start : tie.After-shared-slice-known5 → tie.Start
+start c = c .before .before .before .before .before .before
+
+-- the count as the laws have it
+abbrev four : (c : tie.After-shared-slice-known5) → c .before .wide .result + 4 ≡ getD (start c .args .frame .now) 2 0 + 4
+four c = ap (λ (n : ℕ). n + 4) (c .before .wide .ensures .0)
+
 returns : tie.Need-returns
-returns c = says-refused _ _ _ Address (refused-bit _ _ _ (omega arith) (c .if1 .taken))
+returns c =
+    says-refused _ _ _ Address (refused-destination _ _ _ (start (c .before) .pre) (not-true _ (c .if1 .taken)))
 
 returns-2 : tie.Need-returns-2
-returns-2 c = says-refused _ _ _ Address (refused-address _ _ _ (omega arith) (omega arith) (c .if2 .taken))
+returns-2 c =
+    let e1 = c .before in
+    let ours = both _ _ (not-false _ (e1 .if1 .left)) in
+    says-refused _ _ _ Command
+    (refused-command _ _ _ (start (e1 .before) .pre) (eqb-true _ _ (ours .0)) (eqb-true _ _ (ours .1)) (c .if2 .taken))
+
+add-if3 : tie.Need-add-if3
+add-if3 c = search needs
 
 returns-3 : tie.Need-returns-3
 returns-3 c =
-    says-refused _ _ _ Command (refused-command _ _ _ (omega arith) (omega arith) (omega arith) (c .if3 .taken))
-
-add-if4 : tie.Need-add-if4
-add-if4 c = omega arith
+    let e2 = c .before in
+    let e1 = e2 .before in
+    let ours = both _ _ (not-false _ (e1 .if1 .left)) in
+    says-refused _ _ _ Count
+    (refused-count _ _ _ (start (e1 .before) .pre) (eqb-true _ _ (ours .0)) (eqb-true _ _ (ours .1)) (e2 .if2 .left)
+    (λ e. c .if3 .taken (four (e1 .before) ∙ e)))
 
 returns-4 : tie.Need-returns-4
 returns-4 c =
-    says-refused _ _ _ Count
-    (refused-count _ _ _ (omega arith) (omega arith) (omega arith) (omega arith) (λ e. omega arith))
+    let e3 = c .before in
+    let e2 = e3 .before in
+    let e1 = e2 .before in
+    let ours = both _ _ (not-false _ (e1 .if1 .left)) in
+    says-refused _ _ _ SourceBit
+    (refused-source _ _ _ (start (e1 .before) .pre) (eqb-true _ _ (ours .0)) (eqb-true _ _ (ours .1)) (e2 .if2 .left)
+    (sym (four (e1 .before)) ∙ e3 .if3 .left) (c .if4 .taken))
+
+ends-right-requires : tie.Need-ends-right-requires
+ends-right-requires c κs = search needs
 
 returns-5 : tie.Need-returns-5
 returns-5 c =
-    says-refused _ _ _ SourceBit
-    (refused-source _ _ _ (omega arith) (omega arith) (omega arith) (omega arith) (omega arith) (c .if5 .taken))
-
-sub-end : tie.Need-sub-end
-sub-end c = search needs
-
-shared-slice-read-if6 : tie.Need-shared-slice-read-if6
-shared-slice-read-if6 c = search needs
-
-sub-pec : tie.Need-sub-pec
-sub-pec c = search needs
-
-part-pec-start : tie.Need-part-pec-start
-part-pec-start c = search needs
-
-part-pec-end : tie.Need-part-pec-end
-part-pec-end c = search needs
-
-pec-requires : tie.Need-pec-requires
-pec-requires c κs = search needs
-
-abbrev frame : tie.After-pec → List ℕ
-frame c = c .before .before .before .before .before .before .before .before .before .before .before .before .before .before .args .frame .now
-
--- what was worked out is the PEC of all bytes before the last
-check : (c : tie.After-pec) → c .pec .result ≡ pecOf (beforeEnd (frame c))
-unfolding beforeEnd
-check c = c .pec .ensures ∙ ap (λ (n : ℕ). pecOf (take n (frame c))) (sub-zero (length (frame c) - 1))
+    let e4 = c .before .before in
+    let e3 = e4 .before in
+    let e2 = e3 .before in
+    let e1 = e2 .before in
+    let ours = both _ _ (not-false _ (e1 .if1 .left)) in
+    says-refused _ _ _ Pec
+    (refused-check _ _ _ (start (e1 .before) .pre) (eqb-true _ _ (ours .0)) (eqb-true _ _ (ours .1)) (e2 .if2 .left)
+    (sym (four (e1 .before)) ∙ e3 .if3 .left) (e4 .if4 .left)
+    (eqb-false _ _ (sym (c .before .ends-right .ensures) ∙ not-true _ (c .if5 .taken))))
 
 returns-6 : tie.Need-returns-6
-unfolding endOf beforeEnd
 returns-6 c =
-    says-refused _ _ _ Pec
-    (refused-check _ _ _ (omega arith) (omega arith) (omega arith) (omega arith) (omega arith) (omega arith)
-    (λ e. c .if6 .taken (e ∙ sym (check (c .before)))))
-
-returns-7 : tie.Need-returns-7
-unfolding endOf beforeEnd
-returns-7 c =
+    let e4 = c .before .before in
+    let e3 = e4 .before in
+    let e2 = e3 .before in
+    let e1 = e2 .before in
+    let ours = both _ _ (not-false _ (e1 .if1 .left)) in
     says-good _ _ _
-    (passed-all _ _ _ (omega arith) (omega arith) (omega arith) (omega arith) (omega arith) (omega arith)
-    (c .if6 .left ∙ check (c .before)))
+    (passed-all _ _ _ (start (e1 .before) .pre) (eqb-true _ _ (ours .0)) (eqb-true _ _ (ours .1)) (e2 .if2 .left)
+    (sym (four (e1 .before)) ∙ e3 .if3 .left) (e4 .if4 .left)
+    (eqb-true _ _ (sym (c .before .ends-right .ensures) ∙ not-false _ (c .if5 .left))))
 
 pub carried-sized-spec : {M : Type 1} → statement M
 carried-sized-spec =
@@ -104,15 +106,9 @@ carried-sized-spec =
     shared-slice-read-sender
     returns
     returns-2
+    add-if3
     returns-3
-    add-if4
     returns-4
+    ends-right-requires
     returns-5
-    sub-end
-    shared-slice-read-if6
-    sub-pec
-    part-pec-start
-    part-pec-end
-    pec-requires
-    returns-6
-    returns-7)
+    returns-6)
