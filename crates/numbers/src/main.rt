@@ -1,33 +1,118 @@
-// The numbers that can be checked on paper, run on the proved calls: each line says in words what was tried and what came of it.
+// Document 01's numbers, run on the proved calls and told in words.
+mod answers;
 mod frames;
-mod gathering;
+mod keys;
+mod messages;
+mod packets;
+mod paths;
 mod regions;
-mod rings;
 mod states;
 mod text;
-mod windows;
 
-use text::Page;
+// What was tried, line by line, and a mark for what came of it: a byte of 0x80 or more.
+const PAGE: [u8; 985] = *b"SMBus
+smbus frame of 9 bytes: \x80
+smbus frame of 10 bytes: \x81
+smbus frame of 73 bytes: \x82
+smbus frame of 74 bytes: \x83
+smbus packet of 4 bytes written: \x84
+smbus packet of 5 bytes written: \x85
+smbus packet of 68 bytes written: \x86
+smbus packet of 69 bytes written: \x87
 
-// A packet to EID 9 from EID 10, start and end set, with one byte of body.
-const ORDER: [u8; 5] = [0x01, 0x09, 0x0A, 0xC8, 0x00];
+PCC
+pcc length 8: \x90
+pcc length 9: \x91
+pcc length 72: \x92
+pcc length 73: \x93
+
+MMBI flags B_UP, B_RST, H_UP, H_RST
+flags 0000: \xA0
+flags 1000: \xA1
+flags 1010: \xA2
+flags 1011: \xA3
+flags 1110: \xA4
+flags 1111: \xA5
+
+Messages at EID 9
+message of one packet 01 09 0A C8 00: \xB0
+message of 16 bodies of 64, the last not yet the end: \xB1
+message of 1024 held and one byte more: \xB2
+message slot after that, asked by one more packet: \xB3
+message of 16 bodies of 64, the last the end: \xB4
+first key: \xC0
+second key: \xC1
+third key: \xC2
+fourth key: \xC3
+fifth key: \xC4
+fifth key after slot 2 is freed: \xC5
+fifth key started over: \xC6
+slot 3 freed: \xD3
+slot 4 freed: \xD4
+
+The packet 01 09 0A C8 00 on the three paths, each to a fresh receiver at EID 9
+path smbus: \xE0
+path pcc: \xE1
+path ring: \xE2
+";
 
 fn main() {
-    let mut out = [0u8; 8192];
-    let end = put_all(&mut out);
-    show(&out, end);
+    let page = PAGE;
+    tell_page(&page);
 }
 
-// All lines in one write.
-fn show(out: &Page, end: usize) {
-    io::write_all(1, text::part(out, 0, end));
+// Says the page, and in place of each mark what came of the trial.
+fn tell_page(page: &[u8]) {
+    let mut from = 0;
+    let mut i = 0;
+    while i < page.len() {
+        let mark = page[i];
+        if 0x80 <= mark {
+            text::say(&page[from..i]);
+            tell_trial(mark);
+            from = i + 1;
+        }
+        i += 1;
+    }
+    text::say(&page[from..i]);
 }
 
-fn put_all(out: &mut Page) -> usize {
-    let mut end = frames::put_all(out, 0);
-    end = regions::put_all(out, end);
-    end = rings::put_all(out, end);
-    end = windows::put_all(out, end);
-    end = states::put_all(out, end);
-    gathering::put_all(out, end)
+fn tell_trial(mark: u8) {
+    match mark {
+        0x80 => frames::read(5),
+        0x81 => frames::read(6),
+        0x82 => frames::read(69),
+        0x83 => frames::read(70),
+        0x84 => frames::write(4),
+        0x85 => frames::write(5),
+        0x86 => frames::write(68),
+        0x87 => frames::write(69),
+        0x90 => regions::read(8),
+        0x91 => regions::read(9),
+        0x92 => regions::read(72),
+        0x93 => regions::read(73),
+        0xA0 => states::tell(false, false, false, false),
+        0xA1 => states::tell(true, false, false, false),
+        0xA2 => states::tell(true, false, true, false),
+        0xA3 => states::tell(true, false, true, true),
+        0xA4 => states::tell(true, true, true, false),
+        0xA5 => states::tell(true, true, true, true),
+        0xB0 => messages::tell(0, 5, 0xC8),
+        0xB1 => messages::tell(15, 68, 0x38),
+        0xB2 => messages::tell(16, 5, 0x48),
+        0xB3 => messages::tell_dropped(),
+        0xB4 => messages::tell(15, 68, 0x78),
+        0xC0 => keys::tell(0, 0x88),
+        0xC1 => keys::tell(1, 0x89),
+        0xC2 => keys::tell(2, 0x8A),
+        0xC3 => keys::tell(3, 0x8B),
+        0xC4 => keys::tell(4, 0x8C),
+        0xC5 => keys::tell(6, 0x8C),
+        0xC6 => keys::tell(7, 0x8C),
+        0xD3 => keys::tell_freed(3),
+        0xD4 => keys::tell_freed(4),
+        0xE0 => paths::tell_smbus(),
+        0xE1 => paths::tell_pcc(),
+        _ => paths::tell_ring(),
+    }
 }
