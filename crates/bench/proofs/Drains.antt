@@ -1,7 +1,7 @@
 -- A drain, chunk by chunk: what is still to do from the place reached ends as the whole does from the front.
 -- Assumes nothing.
 use mathlib.Core.Path.{_≡_, refl, ap, sym, _∙_}
-use mathlib.Core.List.{List, [], _++_}
+use mathlib.Core.List.{List, []}
 use Prim.Native.Nat.{ℕ, _+_, _-_, _≤_}
 use native.Mathlib.Nat.{zero-add, sub-zero}
 use native.Mathlib.Omega.{arith}
@@ -10,20 +10,21 @@ use lib.Seq.{drop-drop, take-all}
 use Rattle.records.specs.Record.{joined, recordsOf}
 use Rattle.transcript.specs.declared.state.State.{State}
 use Rattle.transcript.specs.declared.taking.Taken.{Taken}
-use Rattle.transcript.specs.Transcript.{Ran, run, left, chunkOf}
+use Rattle.transcript.specs.Transcript.{Ran, run, runOn, left, chunkOf}
 use Rattle.transcript.proofs.Chunks.{Chunked, chunked}
 use Rattle.bench.specs.declared.sending.Sent.{Sent}
 use Rattle.bench.specs.Sending.{Sends}
 use Rattle.bench.specs.Program.{Drains}
 use Rattle.bench.proofs.Sends.{sends-none, sends-both}
 
-pub record Going (s₀ : State) (m₀ bytes : List ℕ) (sent₀ : Sent) (s : State) (m : List ℕ) (sent : Sent) (read : ℕ) : Type 0 where
+pub record Going (s₀ : State) (m₀ bytes : List ℕ) (sent₀ : Sent)
+    (s : State) (m : List ℕ) (sent : Sent) (read : ℕ) : Type 0 where
   pub within : read ≤ length bytes
-  pub state : run s m (recordsOf (drop read bytes)) .state ≡ run s₀ m₀ (recordsOf bytes) .state
-  pub memory : run s m (recordsOf (drop read bytes)) .memory ≡ run s₀ m₀ (recordsOf bytes) .memory
+  pub state : runOn s m (drop read bytes) .state ≡ runOn s₀ m₀ bytes .state
+  pub memory : runOn s m (drop read bytes) .memory ≡ runOn s₀ m₀ bytes .memory
   pub reads : read + length (joined (recordsOf (drop read bytes))) ≡ length (joined (recordsOf bytes))
-  pub sends : (later : Sent) → Sends sent (length (run s m (recordsOf (drop read bytes)) .text)) later
-      → Sends sent₀ (length (run s₀ m₀ (recordsOf bytes) .text)) later
+  pub sends : (later : Sent) → Sends sent (length (runOn s m (drop read bytes) .text)) later
+      → Sends sent₀ (length (runOn s₀ m₀ bytes .text)) later
 
 module _ (s₀ : State) (m₀ bytes : List ℕ) (sent₀ : Sent) where
   pub going-start : Going s₀ m₀ bytes sent₀ s₀ m₀ sent₀ 0
@@ -33,48 +34,52 @@ module _ (s₀ : State) (m₀ bytes : List ℕ) (sent₀ : Sent) where
         state = refl;
         memory = refl;
         reads = zero-add (length (joined (recordsOf bytes)));
-        sends = λ (later : Sent) (p : Sends sent₀ (length (run s₀ m₀ (recordsOf bytes) .text)) later). p;
+        sends = λ (later : Sent) (p : Sends sent₀ (length (runOn s₀ m₀ bytes .text)) later). p;
       }
 
-  -- where no record is left, the drain is done
-  pub going-done : (s : State) (m : List ℕ) (sent : Sent) (read : ℕ) → Going s₀ m₀ bytes sent₀ s m sent read → recordsOf (drop read bytes) ≡ []
-      → Drains s₀ m₀ bytes sent₀ (record { state = s; read = read; sent = sent }) m
-  unfolding run joined
-  going-done s m sent read g none =
-      let ran = ap (run s m) none in
-      record {
-        state = sym (ap (λ (r : Ran). r .state) ran) ∙ g .state;
-        memory = sym (ap (λ (r : Ran). r .memory) ran) ∙ g .memory;
-        read = omega (arith, g .reads, ap (λ (l : List (List ℕ)). length (joined l)) none);
-        sent = g .sends sent (rw ran (sends-none sent));
-      }
-
-  -- one chunk more
-  module _ (s : State) (m out : List ℕ) (sent : Sent) (read : ℕ) (g : Going s₀ m₀ bytes sent₀ s m sent read) (room : 86 ≤ length out)
-      {t : Taken} {after written : List ℕ} (e : left t after written ≡ chunkOf s m (take (length bytes - read) (drop read bytes)) out) where
-    pub chunk : Chunked s m (drop read bytes) out t after written
-    chunk =
-        let all : take (length bytes - read) (drop read bytes) ≡ drop read bytes = take-all (length bytes - read) (drop read bytes) (rw length-drop (omega arith)) in
-        chunked s m (drop read bytes) out room (e ∙ ap (λ (l : List ℕ). chunkOf s m l out) all)
-
-    onward : drop (t .read) (drop read bytes) ≡ drop (read + t .read) bytes
-    onward = drop-drop (t .read) read bytes
-
-    pub going-on : (later : Sent) → Sends sent (length (take (t .written - 0) written)) later
-        → Going s₀ m₀ bytes sent₀ (t .state) after later (read + t .read)
-    going-on later p =
-        let runs = rw onward at (chunk .runs) in
+  module _ (s : State) (m : List ℕ) (sent : Sent) (read : ℕ) (g : Going s₀ m₀ bytes sent₀ s m sent read) where
+    -- where no record is left, the drain is done
+    pub going-done : recordsOf (drop read bytes) ≡ []
+        → Drains s₀ m₀ bytes sent₀ (record { state = s; read = read; sent = sent }) m
+    unfolding run joined
+    going-done none =
+        let ran = ap (run s m) none in
         record {
-          within = omega (arith, chunk .inside, length-drop read bytes, g .within);
-          state = sym (ap (λ (r : Ran). r .state) runs) ∙ g .state;
-          memory = sym (ap (λ (r : Ran). r .memory) runs) ∙ g .memory;
-          reads = omega (arith, rw onward at (chunk .reads), g .reads);
-          sends = λ (last : Sent) (q : Sends later (length (run (t .state) after (recordsOf (drop (read + t .read) bytes)) .text)) last).
-              g .sends last (rw (runs, length-append) (sends-both (rw (sub-zero (t .written), chunk .front) at p) q));
+          state = sym (ap (λ (r : Ran). r .state) ran) ∙ g .state;
+          memory = sym (ap (λ (r : Ran). r .memory) ran) ∙ g .memory;
+          read = omega (arith, g .reads, ap (λ (l : List (List ℕ)). length (joined l)) none);
+          sent = g .sends sent (rw ran (sends-none sent));
         }
 
-    -- a chunk that takes nothing is the last
-    pub chunk-last : t .read ≡ 0 → recordsOf (drop (read + t .read) bytes) ≡ []
-    chunk-last none =
-        let same : read + t .read ≡ read = omega arith in
-        ap (λ (n : ℕ). recordsOf (drop n bytes)) same ∙ chunk .stops none
+    rest : take (length bytes - read) (drop read bytes) ≡ drop read bytes
+    rest = take-all (length bytes - read) (drop read bytes) (rw length-drop (omega arith))
+
+    -- one chunk more
+    module _ (out : List ℕ) (room : 86 ≤ length out) {t : Taken} {after written : List ℕ}
+        (e : left t after written ≡ chunkOf s m (take (length bytes - read) (drop read bytes)) out) where
+      pub chunk : Chunked s m (drop read bytes) out t after written
+      chunk = chunked s m (drop read bytes) out room (e ∙ ap (λ (l : List ℕ). chunkOf s m l out) rest)
+
+      onward : drop (t .read) (drop read bytes) ≡ drop (read + t .read) bytes
+      onward = drop-drop (t .read) read bytes
+
+      pub going-on : (later : Sent) → Sends sent (length (take (t .written - 0) written)) later
+          → Going s₀ m₀ bytes sent₀ (t .state) after later (read + t .read)
+      going-on later p =
+          let runs = rw onward at (chunk .runs) in
+          let here = rw (sub-zero (t .written), chunk .front) at p in
+          record {
+            within = omega (arith, chunk .inside, length-drop read bytes, g .within);
+            state = sym (ap (λ (r : Ran). r .state) runs) ∙ g .state;
+            memory = sym (ap (λ (r : Ran). r .memory) runs) ∙ g .memory;
+            reads = omega (arith, rw onward at (chunk .reads), g .reads);
+            sends = λ (last : Sent)
+                (q : Sends later (length (runOn (t .state) after (drop (read + t .read) bytes) .text)) last).
+                g .sends last (rw (runs, length-append) (sends-both here q));
+          }
+
+      -- a chunk that takes nothing is the last
+      pub chunk-last : t .read ≡ 0 → recordsOf (drop (read + t .read) bytes) ≡ []
+      chunk-last none =
+          let same : read + t .read ≡ read = omega arith in
+          ap (λ (n : ℕ). recordsOf (drop n bytes)) same ∙ chunk .stops none

@@ -10,11 +10,10 @@ use borrow.Author.Tests.{ltb-false}
 use lib.Dec.{ltb}
 use lib.ListN.{length, take, length-append}
 use Rattle.octets.proofs.Choice.{both}
-use Rattle.records.specs.Record.{recordsOf, restOf}
+use Rattle.records.specs.Record.{restOf}
 use Rattle.records.proofs.Walks.{records-none, rest-none, rest-append}
-use Rattle.transcript.specs.declared.state.State.{State}
 use Rattle.transcript.specs.Frame.{start}
-use Rattle.transcript.specs.Transcript.{Ran, behindText, run, closing, transcriptOf}
+use Rattle.transcript.specs.Transcript.{Ran, behindText, run, runOn, closing, transcriptOf}
 use Rattle.transcript.specs.Turns.{cameIn, goesOn}
 use Rattle.transcript.proofs.Runs.{run-cut}
 use Rattle.bench.specs.declared.sending.Sent.{Sent}
@@ -27,16 +26,17 @@ use Rattle.bench.proofs.Closings.{closing-size, closing-front}
 -- so far, with so many turns left
 pub record Along (m₀ : List ℕ) (t : Turned) (left : ℕ) (m input : List ℕ) : Type 0 where
   pub parts : List (List ℕ)
-  pub state : t .state ≡ run start m₀ (recordsOf (cameIn parts)) .state
-  pub memory : m ≡ run start m₀ (recordsOf (cameIn parts)) .memory
-  pub sent : Sends nothingSent (length (run start m₀ (recordsOf (cameIn parts)) .text)) (t .sent)
+  pub state : t .state ≡ runOn start m₀ (cameIn parts) .state
+  pub memory : m ≡ runOn start m₀ (cameIn parts) .memory
+  pub sent : Sends nothingSent (length (runOn start m₀ (cameIn parts) .text)) (t .sent)
   pub held : take (t .held) input ≡ restOf (cameIn parts)
   pub few : t .held < 256
   pub more : t .more ≡ ((not (t .failed) && not (t .sent .failed)) && goesOn parts)
   pub turns : left + length parts ≡ 18446744073709551615
 
 pub along-start : (m₀ input : List ℕ)
-    → Along m₀ (record { state = start; held = 0; sent = nothingSent; failed = false; more = true }) 18446744073709551615 m₀ input
+    → Along m₀ (record { state = start; held = 0; sent = nothingSent; failed = false; more = true })
+    18446744073709551615 m₀ input
 unfolding cameIn run
 along-start m₀ input =
     let ran = ap (run start m₀) records-none in
@@ -52,23 +52,26 @@ along-start m₀ input =
     }
 
 module _ {m₀ : List ℕ} {t : Turned} {left : ℕ} {m input : List ℕ} (a : Along m₀ t left m input) where
-  ran : Ran
-  ran = run start m₀ (recordsOf (cameIn (a .parts)))
+  abbrev ran : Ran
+  ran = runOn start m₀ (cameIn (a .parts))
 
   -- one turn more: what came stands behind all that came before
-  pub along-turn : {u : Turned} {m' input' : List ℕ} → 0 < left → Turns (t .state) m (take (t .held) input) (t .sent) u m' input'
-      → Along m₀ u (left - 1) m' input'
-  unfolding cameIn ran
+  pub along-turn : {u : Turned} {m' input' : List ℕ} → 0 < left
+      → Turns (t .state) m (take (t .held) input) (t .sent) u m' input' → Along m₀ u (left - 1) m' input'
+  unfolding cameIn
   along-turn {u} {m'} {input'} h k =
-      let here : run (t .state) m (recordsOf (take (t .held) input ++ k .came)) ≡ run (ran .state) (ran .memory) (recordsOf (restOf (cameIn (a .parts)) ++ k .came)) =
-      λ i. run (a .state i) (a .memory i) (recordsOf (a .held i ++ k .came)) in
+      let here : runOn (t .state) m (take (t .held) input ++ k .came)
+      ≡ runOn (ran .state) (ran .memory) (restOf (cameIn (a .parts)) ++ k .came) =
+      λ i. runOn (a .state i) (a .memory i) (a .held i ++ k .came) in
       let whole = run-cut start m₀ (cameIn (a .parts)) (k .came) ∙ ap (behindText (ran .text)) (sym here) in
       record {
         parts = k .came ∷ a .parts;
         state = k .state ∙ sym (ap (λ (r : Ran). r .state) whole);
         memory = k .memory ∙ sym (ap (λ (r : Ran). r .memory) whole);
         sent = rw (whole, length-append) (sends-both (a .sent) (k .sent));
-        held = k .rest ∙ ap (λ (l : List ℕ). restOf (l ++ k .came)) (a .held) ∙ sym (rest-append (cameIn (a .parts)) (k .came));
+        held = k .rest
+            ∙ ap (λ (l : List ℕ). restOf (l ++ k .came)) (a .held)
+            ∙ sym (rest-append (cameIn (a .parts)) (k .came));
         few = k .few;
         more = k .more;
         turns = omega (arith, a .turns);
@@ -87,8 +90,8 @@ module _ {m₀ : List ℕ} {t : Turned} {left : ℕ} {m input : List ℕ} (a : A
       }
 
   -- nothing failed and the input has not ended, but no turn is left
-  used-up : t .failed ≡ false → t .sent .failed ≡ false → goesOn (a .parts) ≡ true → (t .more && ltb 0 left) ≡ false
-      → length (a .parts) ≡ 18446744073709551615
+  used-up : t .failed ≡ false → t .sent .failed ≡ false → goesOn (a .parts) ≡ true
+      → (t .more && ltb 0 left) ≡ false → length (a .parts) ≡ 18446744073709551615
   used-up read sent goes stopped =
       let more : t .more ≡ true = a .more ∙ rw (read, sent, goes) in
       omega (arith, ltb-false 0 left (rw more at stopped), a .turns)
@@ -98,8 +101,9 @@ module _ {m₀ : List ℕ} {t : Turned} {left : ℕ} {m input : List ℕ} (a : A
   not-failed false e = refl
 
   -- and otherwise the last line
-  pub run-finished : {out out' : List ℕ} {later : Sent} → 86 ≤ length out → t .failed ≡ false → (t .more && ltb 0 left) ≡ false
-      → Finishes (t .state) out (t .sent) later out' → Runs m₀ (record { state = t .state; sent = later; failed = false }) m out'
+  pub run-finished : {out out' : List ℕ} {later : Sent} → 86 ≤ length out → t .failed ≡ false
+      → (t .more && ltb 0 left) ≡ false → Finishes (t .state) out (t .sent) later out'
+      → Runs m₀ (record { state = t .state; sent = later; failed = false }) m out'
   unfolding transcriptOf
   run-finished {out} {out'} {later} room read stopped f =
       let size = closing-size (t .state) out room ∙ zero-add (length (closing (t .state))) in

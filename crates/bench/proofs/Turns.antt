@@ -1,6 +1,6 @@
 -- One turn: what came stands behind the bytes held, and the rest of both is held.
 -- Assumes nothing.
-use mathlib.Core.Path.{_≡_, refl, ap, sym, _∙_}
+use mathlib.Core.Path.{_≡_, ap, sym, _∙_}
 use mathlib.Core.Bool.{Bool, not, _&&_}
 use mathlib.Core.List.{List, _++_}
 use mathlib.Core.Logic.{by-cases}
@@ -32,46 +32,51 @@ same-test a b n e =
     (λ (h : a < b → ⊥). rw (le-ltb a b (omega arith), le-ltb 0 n (omega arith)))
 
 module _ (input : List ℕ) (held : ℕ) (f : Filled) (filled : List ℕ) (p : Fills input held f filled) where
-  all : List ℕ
+  -- all that is there, and what of it came
+  abbrev all : List ℕ
   all = take (f .end) filled
 
-  came : List ℕ
-  came = drop held (take (f .end) filled)
+  abbrev came : List ℕ
+  came = drop held all
 
-  sized : length (take (f .end) filled) ≡ f .end
+  sized : length all ≡ f .end
   sized = length-take-le (f .end) filled (p .within)
 
-  -- what was held, and what came
-  parted : take (f .end) filled ≡ take held input ++ came
-  unfolding came
+  parted : all ≡ take held input ++ came
   parted =
-      sym (take-append-drop held (take (f .end) filled))
-      ∙ ap (λ (l : List ℕ). l ++ drop held (take (f .end) filled)) (take-take held (f .end) filled (p .behind) ∙ p .kept)
+      sym (take-append-drop held all)
+      ∙ ap (λ (l : List ℕ). l ++ came) (take-take held (f .end) filled (p .behind) ∙ p .kept)
 
   came-size : length came ≡ f .end - held
-  unfolding came
   came-size = rw (length-drop, sized)
 
   -- the records stand within what is there
-  taken : length (joined (recordsOf (take (f .end) filled))) ≤ f .end
-  taken =
-      let b = take (f .end) filled in
-      omega (arith, sized, ap length (records-split b), length-append (joined (recordsOf b)) (restOf b))
+  taken : length (joined (recordsOf all)) ≤ f .end
+  taken = omega (arith, sized, ap length (records-split all), length-append (joined (recordsOf all)) (restOf all))
 
   -- what is moved to the front is the rest
-  moved : (read : ℕ) → read ≡ length (joined (recordsOf (take (f .end) filled))) → between filled read (f .end) ≡ restOf (take (f .end) filled)
+  moved : (read : ℕ) → read ≡ length (joined (recordsOf all)) → between filled read (f .end) ≡ restOf all
   moved read e =
-      let b = take (f .end) filled in
-      between-is filled read (f .end) (omega (arith, taken)) (omega (arith, taken, p .within)) ∙ ap (λ (n : ℕ). drop n b) e ∙ rest-behind b
+      between-is filled read (f .end) (omega (arith, taken)) (omega (arith, taken, p .within))
+      ∙ ap (λ (n : ℕ). drop n all) e
+      ∙ rest-behind all
 
   pub turned : (s : State) (m : List ℕ) (earlier : Sent) → Below 256 filled → {d : Drained} {after : List ℕ}
       → Drains s m (take (f .end - 0) filled) earlier d after
-      → {rest : ℕ} {left : List ℕ} → rest ≡ length (between filled (d .read) (f .end)) → left ≡ movedOf filled (d .read) (f .end)
+      → {rest : ℕ} {left : List ℕ} → rest ≡ length (between filled (d .read) (f .end))
+      → left ≡ movedOf filled (d .read) (f .end)
       → {unsent : Bool} → unsent ≡ d .sent .failed
-      → Turns s m (take held input) earlier (record { state = d .state; held = rest; sent = d .sent; failed = f .failed; more = (not (f .failed) && not unsent) && ltb held (f .end) }) after left
+      → Turns s m (take held input) earlier
+      (record {
+        state = d .state;
+        held = rest;
+        sent = d .sent;
+        failed = f .failed;
+        more = (not (f .failed) && not unsent) && ltb held (f .end);
+      })
+      after left
   turned s m earlier bytes {d} {after} given {rest} {left} e moves {unsent} same =
-      let whole = ap (λ (n : ℕ). take n filled) (sub-zero (f .end)) in
-      let g = rw whole at given in
+      let g = rw (ap (λ (n : ℕ). take n filled) (sub-zero (f .end))) at given in
       let over = moved (d .read) (g .read) in
       let h = rw parted at g in
       record {
@@ -80,6 +85,6 @@ module _ (input : List ℕ) (held : ℕ) (f : Filled) (filled : List ℕ) (p : F
         memory = h .memory;
         sent = h .sent;
         rest = rw (e, moves) (moved-front filled (d .read) (f .end)) ∙ over ∙ ap restOf parted;
-        few = omega (arith, e, ap length over, rest-short (take (f .end) filled) (below-take (f .end) filled bytes));
+        few = omega (arith, e, ap length over, rest-short all (below-take (f .end) filled bytes));
         more = rw (same, same-test held (f .end) (length came) came-size);
       }

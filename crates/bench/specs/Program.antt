@@ -4,7 +4,7 @@
 use Prim.Native.Nat.{ℕ, _≤_, _<_}
 use mathlib.Core.Path.{_≡_}
 use mathlib.Core.Bool.{Bool, true, false, not, _&&_}
-use mathlib.Core.List.{List, [], _∷_, _++_}
+use mathlib.Core.List.{List, _++_}
 use lib.Dec.{ltb}
 use lib.ListN.{length, take}
 use Rattle.octets.specs.Choice.{pick}
@@ -12,7 +12,7 @@ use Rattle.records.specs.Record.{joined, recordsOf, restOf}
 use Rattle.records.specs.Line.{put}
 use Rattle.transcript.specs.declared.state.State.{State}
 use Rattle.transcript.specs.Frame.{start}
-use Rattle.transcript.specs.Transcript.{run, closing, transcriptOf}
+use Rattle.transcript.specs.Transcript.{runOn, closing, transcriptOf}
 use Rattle.transcript.specs.Turns.{cameIn, goesOn}
 use Rattle.bench.specs.declared.sending.Sent.{Sent}
 use Rattle.bench.specs.declared.Filled.{Filled}
@@ -29,10 +29,10 @@ pub record Fills (before : List ℕ) (held : ℕ) (f : Filled) (after : List ℕ
 
 -- every whole record of the bytes taken, and all their lines sent
 pub record Drains (s : State) (m bytes : List ℕ) (earlier : Sent) (d : Drained) (after : List ℕ) : Type 0 where
-  pub state : d .state ≡ run s m (recordsOf bytes) .state
-  pub memory : after ≡ run s m (recordsOf bytes) .memory
+  pub state : d .state ≡ runOn s m bytes .state
+  pub memory : after ≡ runOn s m bytes .memory
   pub read : d .read ≡ length (joined (recordsOf bytes))
-  pub sent : Sends earlier (length (run s m (recordsOf bytes) .text)) (d .sent)
+  pub sent : Sends earlier (length (runOn s m bytes .text)) (d .sent)
 
 -- the last line at the output's front, and sent
 pub record Finishes (s : State) (out : List ℕ) (earlier later : Sent) (after : List ℕ) : Type 0 where
@@ -43,20 +43,25 @@ pub record Finishes (s : State) (out : List ℕ) (earlier later : Sent) (after :
 -- More is to come unless a call failed or nothing came.
 pub record Turns (s : State) (m held : List ℕ) (earlier : Sent) (t : Turned) (after input : List ℕ) : Type 0 where
   pub came : List ℕ
-  pub state : t .state ≡ run s m (recordsOf (held ++ came)) .state
-  pub memory : after ≡ run s m (recordsOf (held ++ came)) .memory
-  pub sent : Sends earlier (length (run s m (recordsOf (held ++ came)) .text)) (t .sent)
+  pub state : t .state ≡ runOn s m (held ++ came) .state
+  pub memory : after ≡ runOn s m (held ++ came) .memory
+  pub sent : Sends earlier (length (runOn s m (held ++ came) .text)) (t .sent)
   pub rest : take (t .held) input ≡ restOf (held ++ came)
   pub few : t .held < 256
   pub more : t .more ≡ ((not (t .failed) && not (t .sent .failed)) && ltb 0 (length came))
 
+-- the transcript, or, where a read failed, its lines without the last one
+abbrev pub toSend : Bool → List ℕ → List ℕ → List ℕ
+toSend failed m input = pick failed (runOn start m input .text) (transcriptOf m input)
+
 -- the whole run, on all that came, however it was cut into parts: the state, the memory and the last line are those of
--- its transcript, and as many bytes were sent as the transcript has (after a failed read, without its last line).
+-- its transcript, and as many bytes were sent as are to send.
 -- It is over only where the input ended, a call failed or 2^64 - 1 turns passed.
 pub record Runs (m : List ℕ) (e : Ended) (after out : List ℕ) : Type 0 where
   pub parts : List (List ℕ)
-  pub state : e .state ≡ run start m (recordsOf (cameIn parts)) .state
-  pub memory : after ≡ run start m (recordsOf (cameIn parts)) .memory
-  pub sent : Sends nothingSent (length (pick (e .failed) (run start m (recordsOf (cameIn parts)) .text) (transcriptOf m (cameIn parts)))) (e .sent)
+  pub state : e .state ≡ runOn start m (cameIn parts) .state
+  pub memory : after ≡ runOn start m (cameIn parts) .memory
+  pub sent : Sends nothingSent (length (toSend (e .failed) m (cameIn parts))) (e .sent)
   pub line : e .failed ≡ false → take (length (closing (e .state))) out ≡ closing (e .state)
-  pub over : ((not (e .failed) && not (e .sent .failed)) && goesOn parts) ≡ true → length parts ≡ 18446744073709551615
+  pub over : ((not (e .failed) && not (e .sent .failed)) && goesOn parts) ≡ true
+      → length parts ≡ 18446744073709551615

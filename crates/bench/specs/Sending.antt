@@ -15,4 +15,5 @@ nothingSent = record { bytes = 0; failed = false }
 -- so many bytes handed over in one piece or in several: where no write has failed in the end, none had before, and
 -- the count has grown by all of them
 pub record Sends (before : Sent) (bytes : ℕ) (after : Sent) : Type 0 where
-  pub whole : after .failed ≡ false → (before .failed ≡ false) × (capped (after .bytes) ≡ capped (before .bytes + bytes))
+  pub whole : after .failed ≡ false
+      → (before .failed ≡ false) × (capped (after .bytes) ≡ capped (before .bytes + bytes))

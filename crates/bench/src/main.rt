@@ -7,8 +7,6 @@ use transcript::State;
 ghost use mathlib.Core.Path.{_≡_};
 ghost use Prim.Native.Nat.{_≤_, _<_};
 ghost use lib.ListN.{length, take, replicate};
-ghost use Rattle.records.specs.Line.{put};
-ghost use Rattle.transcript.specs.Transcript.{closing};
 ghost use Rattle.bench.specs.Program.{Fills, Drains, Finishes, Turns, Runs};
 
 // Where the bytes in the buffer end after a read, and whether it failed.
@@ -106,7 +104,8 @@ fn turn(
     earlier: Sent,
 ) -> Turned
     requires { ⌜ (held < 256) × (256 ≤ length (now input)) × (86 ≤ length (now output)) ⌝ }
-    ensures { λ r. ⌜ Turns before (now (memory .entry)) (take held (now (input .entry))) earlier r (now (memory .exit)) (now (input .exit)) ⌝ }
+    ensures { λ r. ⌜ Turns before (now (memory .entry)) (take held (now (input .entry))) earlier
+        r (now (memory .exit)) (now (input .exit)) ⌝ }
 {
     let filled = fill(input, held);
     let end = filled.end;
@@ -134,7 +133,8 @@ struct Ended {
 // Turn after turn until the input ends or a call fails; then the last line, but not after a read that failed.
 // A proved loop has to end, and nothing says that the input does: it counts down from a number that no run uses up.
 fn run(memory: &mut [u8], input: &mut [u8], output: &mut [u8]) -> Ended
-    requires { ⌜ (now memory ≡ replicate 4096 0) × (256 ≤ length (now input)) × (86 ≤ length (now output)) ⌝ }
+    requires { ⌜ now memory ≡ replicate 4096 0 ⌝ }
+    requires { ⌜ (256 ≤ length (now input)) × (86 ≤ length (now output)) ⌝ }
     ensures { λ r. ⌜ Runs (now (memory .entry)) r (now (memory .exit)) (now (output .exit)) ⌝ }
 {
     let mut last = Turned {

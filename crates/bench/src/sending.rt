@@ -1,4 +1,4 @@
-// Standard output, and how much was handed to it. Only this file makes a `Sent`, so that a write can't be made up or left out.
+// Standard output, and how much was handed to it. Only this file can make a `Sent`: no write is made up or left out.
 use libc::STDOUT_FILENO;
 ghost use mathlib.Core.Path.{_≡_};
 ghost use Prim.Native.Nat.{_+_};

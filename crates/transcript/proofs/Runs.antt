@@ -19,7 +19,7 @@ use Rattle.records.specs.Record.{recordOf, joined, recordsOf, restOf}
 use Rattle.records.proofs.Walks.{records-append}
 use Rattle.transcript.specs.declared.state.State.{State}
 use Rattle.transcript.specs.Frame.{ownAddress, oneMore, withPacket, frameOf}
-use Rattle.transcript.specs.Transcript.{Ran, behindText, run, packetsIn, Part, noFrame, partOf}
+use Rattle.transcript.specs.Transcript.{Ran, behindText, run, runOn, packetsIn, Part, noFrame, partOf}
 use Rattle.transcript.proofs.Parts.{line-fits, part-none, part-full, part-more}
 
 -- one text in front, and another in front of it
@@ -39,7 +39,8 @@ run-append s m (f ∷ a) b =
 
 -- however the input is cut: the rest of the first part goes on with the second behind it
 pub run-cut : (s : State) (m a b : List ℕ)
-    → run s m (recordsOf (a ++ b)) ≡ behindText (run s m (recordsOf a) .text) (run (run s m (recordsOf a) .state) (run s m (recordsOf a) .memory) (recordsOf (restOf a ++ b)))
+    → runOn s m (a ++ b)
+    ≡ behindText (runOn s m a .text) (runOn (runOn s m a .state) (runOn s m a .memory) (restOf a ++ b))
 run-cut s m a b = ap (run s m) (records-append a b) ∙ run-append s m (recordsOf a) (recordsOf (restOf a ++ b))
 
 -- a count that does not stop

@@ -28,6 +28,10 @@ run s m [] = record { state = s; memory = m; text = [] }
 run s m (frame ∷ frames) =
     behindText (frameOf s m frame .line) (run (frameOf s m frame .state) (frameOf s m frame .memory) frames)
 
+-- the whole records of some bytes, run
+abbrev pub runOn : State → List ℕ → List ℕ → Ran
+runOn s m bytes = run s m (recordsOf bytes)
+
 -- the last line of a state: its two counts
 abbrev pub closing : State → List ℕ
 closing s = lastLine (s .arrivals) (s .packets)
@@ -38,7 +42,7 @@ closed r = r .text ++ closing (r .state)
 
 -- all that the bench program writes on an input, from a given memory
 unfoldable pub transcriptOf : List ℕ → List ℕ → List ℕ
-transcriptOf m input = closed (run start m (recordsOf input))
+transcriptOf m input = closed (runOn start m input)
 
 -- how many frames hold a packet: "packets is counted by 2's layouts"
 unfoldable pub packetsIn : List (List ℕ) → ℕ

@@ -8,13 +8,15 @@ use Rattle.bench.proofs.fill.Tie as tie
 
 returns : tie.Need-returns
 returns c =
-    let read = c .before .before .before .before .before .before .before .before .before in
-    filled _ (read .read .last .1 .0) _ (c .before .before .before .before .before .count .result) _ (omega arith) (c .before .before .before .before .before .count .ensures .0 .0)
+    let counted = c .before .before .before .before .before in
+    let read = counted .before .before .before .before in
+    filled _ (read .read .last .1 .0) _ (counted .count .result) _ (omega arith) (counted .count .ensures .0 .0)
 
 returns-2 : tie.Need-returns-2
 returns-2 c =
-    let read = c .before .before .before .before .before .before .before in
-    filled _ (read .read .last .1 .0) _ (c .before .before .before .count .result) _ (omega arith) (c .before .before .before .count .ensures .0 .0)
+    let counted = c .before .before .before in
+    let read = counted .before .before .before .before in
+    filled _ (read .read .last .1 .0) _ (counted .count .result) _ (omega arith) (counted .count .ensures .0 .0)
 
 pub fill-spec : {M : Type 1} → statement M
 fill-spec =

@@ -1,10 +1,8 @@
 -- `bench::finish` meets its contract.
 -- Assumes nothing.
-use mathlib.Core.Path.{ap}
 use native.Mathlib.Nat.{sub-zero}
 use native.Mathlib.Omega.{arith}
 use borrow.Author.Needs.{needs}
-use lib.ListN.{length}
 use Rattle.bench.proofs.Closings.{closing-fits, closing-size, closing-front}
 use Rattle.bench.proofs.finish.Statement.{statement}
 use Rattle.bench.proofs.finish.Tie as tie
@@ -12,16 +10,19 @@ use Rattle.bench.proofs.finish.Tie as tie
 part-send-end : tie.Need-part-send-end
 part-send-end c =
     let call = c .before .before .before .last-line in
-    let s = c .before .before .before .before .before .before in
-    omega (arith, call .ensures .0, call .kept .1 .0, closing-size (s .args .state) (s .args .output .now) (s .pre), closing-fits (s .args .state) (s .args .output .now) (s .pre))
+    let f = c .before .before .before .before .before .before in
+    let size = closing-size (f .args .state) (f .args .output .now) (f .pre) in
+    let fits = closing-fits (f .args .state) (f .args .output .now) (f .pre) in
+    omega (arith, call .ensures .0, call .kept .1 .0)
 
 returns : tie.Need-returns
 returns c =
     let call = c .before .before .before .before .before .last-line in
-    let s = c .before .before .before .before .before .before .before .before in
+    let f = c .before .before .before .before .before .before .before .before in
+    let front = closing-front (f .args .state) (f .args .output .now) (f .pre) in
     record {
       line = call .ensures .1;
-      sent = rw (sub-zero (call .result), call .ensures .0, call .ensures .1, closing-front (s .args .state) (s .args .output .now) (s .pre)) at (c .send .ensures);
+      sent = rw (sub-zero (call .result), call .ensures .0, call .ensures .1, front) at (c .send .ensures);
     }
 
 pub finish-spec : {M : Type 1} → statement M

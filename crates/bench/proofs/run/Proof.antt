@@ -1,12 +1,11 @@
--- `bench::run` meets its contract. The loop's invariant: all is as after the parts that came. The measure is the number of turns that are left.
--- Assumes nothing.
-use mathlib.Core.Path.{_≡_, refl, sym, _∙_}
-use Prim.Native.Nat.{_≤_, _<_}
+-- `bench::run` meets its contract. The loop's invariant: all is as after the parts that came.
+-- The measure is the number of turns that are left. Assumes nothing.
+use mathlib.Core.Path.{_≡_, refl, _∙_}
+use Prim.Native.Nat.{_<_}
 use borrow.Author.Tests.{ltb-true}
 use lib.Dec.{ltb}
 use Rattle.octets.proofs.Choice.{both}
 use native.Mathlib.Omega.{arith}
-use borrow.Author.Needs.{needs}
 use lib.ListN.{length}
 use Rattle.bench.proofs.Runs.{Along, along-start, along-turn, run-failed, run-finished}
 use Rattle.bench.proofs.run.Statement.{statement}
@@ -14,7 +13,10 @@ use Rattle.bench.proofs.run.Tie as tie
 
 abbrev Inv-loop : tie.InvT-loop
 Inv-loop memory₀ input₀ output₀ last₀ turns₀ memory input output last turns =
-    Along memory₀ last turns memory input × (length memory ≡ length memory₀) × (length input ≡ length input₀) × (length output ≡ length output₀)
+    Along memory₀ last turns memory input
+    × (length memory ≡ length memory₀)
+    × (length input ≡ length input₀)
+    × (length output ≡ length output₀)
 
 abbrev μ-loop : tie.MeasureT-loop
 μ-loop memory₀ input₀ output₀ last₀ turns₀ memory input output last turns = turns
@@ -34,7 +36,8 @@ begin c = c .before .before .before .before .before .before
 again : (c : tie.After-slice-known6 Inv-loop μ-loop) → 0 < head c .loop .turns
 again c =
     let l = head c .loop in
-    ltb-true 0 (l .turns) (both (l .last .more) (ltb 0 (l .turns)) (c .before .before .before .before .before .before .before .before .before .before .if1 .taken) .1)
+    let test = c .before .before .before .before .before .before .before .before .before .before in
+    ltb-true 0 (l .turns) (both (l .last .more) (ltb 0 (l .turns)) (test .if1 .taken) .1)
 
 loop-holds : tie.Need-loop-holds Inv-loop μ-loop
 loop-holds c = (rw (c .before .set-up .ensures, c .nothing .ensures) (along-start _ _), refl, refl, refl)
@@ -42,7 +45,8 @@ loop-holds c = (rw (c .before .set-up .ensures, c .nothing .ensures) (along-star
 turn-requires : tie.Need-turn-requires Inv-loop μ-loop
 turn-requires c κs =
     let h = c .before .before .before .before .before in
-    (h .loop .inv .0 .few, omega (arith, h .loop .inv .2, begin h .pre .1), omega (arith, h .loop .inv .3, begin h .pre .2))
+    let given = begin h .pre .1 in
+    (h .loop .inv .0 .few, omega (arith, h .loop .inv .2), omega (arith, h .loop .inv .3))
 
 sub-turns : tie.Need-sub-turns Inv-loop μ-loop
 sub-turns c = again c
@@ -53,8 +57,12 @@ loop-less c = omega (arith, again c)
 loop-again : tie.Need-loop-again Inv-loop μ-loop
 loop-again c =
     let turn = c .before .before .before .before .before .before .turn in
-    let l = head c .loop in
-    (along-turn (l .inv .0) (again c) (turn .ensures), turn .kept .1 .0 ∙ l .inv .1, turn .kept .1 .1 .0 ∙ l .inv .2, turn .kept .1 .1 .1 .0 ∙ l .inv .3)
+    let l = head c .loop in (
+      along-turn (l .inv .0) (again c) (turn .ensures),
+      turn .kept .1 .0 ∙ l .inv .1,
+      turn .kept .1 .1 .0 ∙ l .inv .2,
+      turn .kept .1 .1 .1 .0 ∙ l .inv .3,
+    )
 
 same-length : tie.Need-same-length Inv-loop μ-loop
 same-length c = c .before .before .before .before .before .loop .inv .1
@@ -71,7 +79,7 @@ returns c = run-failed (c .before .before .before .before .before .loop .inv .0)
 finish-requires : tie.Need-finish-requires Inv-loop μ-loop
 finish-requires c κs =
     let h = c .before .before .before .before .before .before in
-    omega (arith, h .loop .inv .3, begin h .pre .2)
+    omega (arith, h .loop .inv .3, begin h .pre .1)
 
 same-length-4 : tie.Need-same-length-4 Inv-loop μ-loop
 same-length-4 c = end c .loop .inv .1
@@ -85,7 +93,9 @@ same-length-6 c = c .before .before .finish .kept .1 .0 ∙ end c .loop .inv .3
 returns-2 : tie.Need-returns-2 Inv-loop μ-loop
 returns-2 c =
     let l = end c .loop in
-    run-finished (l .inv .0) (omega (arith, l .inv .3, begin (end c) .pre .2)) (c .before .before .before .before .if2 .left) (c .before .before .before .before .before .before .before .if1 .left) (c .before .before .finish .ensures)
+    let test = c .before .before .before .before in
+    run-finished (l .inv .0) (omega (arith, l .inv .3, begin (end c) .pre .1)) (test .if2 .left)
+    (test .before .before .before .if1 .left) (c .before .before .finish .ensures)
 
 pub run-spec : {M : Type 1} → statement M
 run-spec =
