@@ -4,3 +4,4 @@ pub mod Fills
 pub mod Closings
 pub mod Turns
 pub mod Runs
+pub mod Determined
