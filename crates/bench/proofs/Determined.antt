@@ -1,18 +1,23 @@
--- What the contract of `run` leaves open is what came: two outcomes on the same parts are alike.
+-- The contract of `run` leaves open only what came: outcomes on the same parts are alike, and it ends with the input.
 -- Assumes nothing.
-use mathlib.Core.Path.{_≡_, ap, sym, _∙_}
-use mathlib.Core.Bool.{false}
+use mathlib.Core.Path.{_≡_, refl, ap, sym, _∙_}
+use mathlib.Core.Bool.{Bool, true, false}
 use mathlib.Core.List.{List}
 use contract.Lifetimes.{Lfts}
-use Prim.Native.Nat.{ℕ, _+_}
+use Prim.Native.Nat.{ℕ, _+_, _<_}
+use native.Mathlib.Omega.{arith}
 use lib.ListN.{length, take}
 use Rattle.transcript.specs.Frame.{start}
 use Rattle.transcript.specs.Transcript.{runOn, closing}
-use Rattle.transcript.specs.Turns.{cameIn}
+use Rattle.transcript.specs.Turns.{cameIn, goesOn}
 use Rattle.bench.specs.declared.Ended.{Ended}
 use Rattle.bench.specs.Sending.{capped}
 use Rattle.bench.specs.Program.{toSend}
 use Rattle.bench.proofs.run.Reads as run
+
+is-false : (b : Bool) → (b ≡ true → ⊥) → b ≡ false
+is-false true never = absurd (never refl)
+is-false false never = refl
 
 -- the state and the memory
 pub run-determined : (κs : Lfts 3) (a : _) (r q : Ended) (e f : _) (p : run.Post κs a r e) (o : run.Post κs a q f)
@@ -37,3 +42,9 @@ sent-determined κs a r q e f p o same failed h k =
     p .sent .whole h .1
     ∙ (λ i. capped (0 + length (toSend (failed i) (a .0 .now) (cameIn (same i)))))
     ∙ sym (o .sent .whole k .1)
+
+-- where no call failed and there were turns left, the input has ended: the last read brought nothing
+pub run-ended : (κs : Lfts 3) (a : _) (r : Ended) (e : _) (p : run.Post κs a r e) → r .failed ≡ false
+    → r .sent .failed ≡ false → length (p .parts) < 18446744073709551615 → goesOn (p .parts) ≡ false
+run-ended κs a r e p read sent left =
+    is-false (goesOn (p .parts)) (λ (goes : goesOn (p .parts) ≡ true). omega (arith, p .over (rw (read, sent, goes))))
