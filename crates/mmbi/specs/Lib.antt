@@ -1,2 +1,3 @@
 pub mod Interface
 pub mod Words
+pub mod Pointers

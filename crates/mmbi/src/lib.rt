@@ -1,5 +1,6 @@
 // The MMBI interface (003): its state from four flags, and the words that hold pointers and flags.
 mod interface;
+mod pointer;
 mod word;
 
 pub use interface::Flags;
@@ -8,4 +9,5 @@ pub use interface::may_read;
 pub use interface::may_write;
 pub use interface::state;
 pub use interface::transient;
+pub use pointer::pointer_right;
 pub use word::Word;

@@ -1,8 +1,7 @@
--- Two results that a contract allows are equal.
+-- The contracts leave no choice: two answers that one allows are equal, and so is every lent byte at exit.
 -- Assumes nothing.
 use mathlib.Core.Path.{_≡_, refl, ap}
-use mathlib.Core.List.{List}
-use Prim.Native.Nat.{ℕ}
+use contract.Lifetimes.{Lfts}
 use Rattle.octets.proofs.Choice.{determined}
 use Rattle.mctp.proofs.Refusals.{number-injective}
 use Rattle.mctp.specs.Refusals.{numberOf}
@@ -12,6 +11,8 @@ use Rattle.ring.specs.declared.writing.Put.{Put}
 use Rattle.ring.specs.declared.writing.Put.the-variants as put
 use Rattle.ring.specs.Reading as reading
 use Rattle.ring.specs.Writing as writing
+use Rattle.ring.proofs.reading.read.Reads as read
+use Rattle.ring.proofs.writing.write.Reads as write
 
 -- an answer of reading is told by its number and values
 pub taken-injective : (r s : Taken) → reading.saidOf r ≡ reading.saidOf s → r ≡ s
@@ -46,14 +47,16 @@ put-injective (put.Refused m) (put.Refused n) e =
     let same : numberOf m ≡ numberOf n = cc in
     ap put.Refused (number-injective m n same)
 
--- answer and output of reading
-pub read-determined : (r s : Taken) (a b : List ℕ) (x : reading.Left) → reading.left (reading.saidOf r) a ≡ x → reading.left (reading.saidOf s) b ≡ x → (r ≡ s) × (a ≡ b)
-read-determined r s a b x p q =
-    let e = determined p q in
-    (taken-injective r s (ap (λ (l : reading.Left). l .says) e), ap (λ (l : reading.Left). l .output) e)
+-- the answer of `read`, and the output
+pub read-determined : (κs : Lfts 2) (a : _) (r q : Taken) (e f : _) → read.Post κs a r e → read.Post κs a q f
+    → (r ≡ q) × (e .1 .1 .1 .1 .1 .0 .now ≡ f .1 .1 .1 .1 .1 .0 .now)
+read-determined κs a r q e f p o =
+    let same = determined p o in
+    (taken-injective r q (ap (λ (l : reading.Left). l .says) same), ap (λ (l : reading.Left). l .output) same)
 
--- answer and ring of writing
-pub write-determined : (r s : Put) (a b : List ℕ) (x : writing.Left) → writing.left (writing.saidOf r) a ≡ x → writing.left (writing.saidOf s) b ≡ x → (r ≡ s) × (a ≡ b)
-write-determined r s a b x p q =
-    let e = determined p q in
-    (put-injective r s (ap (λ (l : writing.Left). l .says) e), ap (λ (l : writing.Left). l .ring) e)
+-- the answer of `write`, and the ring
+pub write-determined : (κs : Lfts 2) (a : _) (r q : Put) (e f : _) → write.Post κs a r e → write.Post κs a q f
+    → (r ≡ q) × (e .0 .now ≡ f .0 .now)
+write-determined κs a r q e f p o =
+    let same = determined p o in
+    (put-injective r q (ap (λ (l : writing.Left). l .says) same), ap (λ (l : writing.Left). l .ring) same)

@@ -17,7 +17,8 @@ use Rattle.ring.specs.Runs.{allSized, spaceFor, allBytes, Kept, pointerA
 use Rattle.ring.specs.Turn.{turn, stored}
 use Rattle.ring.specs.Writing as writing
 use Rattle.ring.proofs.Held.{Holds, holds-none, holds-written, holds-taken}
-use Rattle.ring.proofs.Numbers.{Pointer, filled-below, filled-empty, filled-room, filled-written}
+use Rattle.mmbi.proofs.Pointers.{Pointer}
+use Rattle.ring.proofs.Numbers.{filled-below, filled-empty, filled-room, filled-written}
 use Rattle.ring.proofs.Readings as readings
 use Rattle.ring.proofs.Readings.{SetUp}
 use Rattle.ring.proofs.RoundTrip.{read-first, room-none}

@@ -15,7 +15,8 @@ use Rattle.ring.specs.Packet.{headerAt, paddingField, typeField, wholeOf
 use Rattle.ring.specs.Runs.{allSized, allBytes}
 use Rattle.ring.specs.Turn.{turn, stored}
 use Rattle.ring.proofs.Headers.{header-padding, header-type, header-whole, header-size, header-back, packet-back, bytes-length}
-use Rattle.ring.proofs.Numbers.{Pointer, filled-below, filled-near, filled-room, filled-written, filled-taken, next-right, next-filled}
+use Rattle.mmbi.proofs.Pointers.{Pointer}
+use Rattle.ring.proofs.Numbers.{filled-below, filled-near, filled-room, filled-written, filled-taken, next-right, next-filled}
 use Rattle.ring.proofs.Readings as readings
 use Rattle.ring.proofs.Readings.{SetUp}
 use Rattle.ring.proofs.Turns.{turn-length, turn-turn, stored-length, stored-behind}

@@ -8,11 +8,12 @@ use Prim.Native.Nat.{ℕ, _+_, _-_, _%_, _≤_, _<_}
 use native.Mathlib.Nat.{mod-lt, mod-eq-of-lt, mod-eq-sub-mod, mod-add-mod, add-assoc}
 use native.Mathlib.Decide.{decLt}
 use native.Mathlib.Omega.{arith}
-use borrow.Author.Tests.{eqb-true, ltb-true, eq-eqb, lt-ltb}
-use lib.Dec.{ltb, eqb}
+use borrow.Author.Tests.{eqb-true, eq-eqb}
+use lib.Dec.{eqb}
 use Rattle.octets.specs.Choice.{within}
 use Rattle.octets.proofs.Choice.{both, within-bounds, within-holds}
-use Rattle.ring.specs.Numbers.{lengthRight, pointerRight, filledOf, roomOf, nextOf}
+use Rattle.mmbi.proofs.Pointers.{Pointer}
+use Rattle.ring.specs.Numbers.{lengthRight, filledOf, roomOf, nextOf}
 
 -- a length inside the rule, as numbers
 pub record Length (length : ℕ) : Type 0 where
@@ -28,19 +29,6 @@ length-facts length e =
 
 pub length-holds : (length : ℕ) → Length length → lengthRight length ≡ true
 length-holds length h = rw (within-holds 128 65536 length (h .low) (h .high), eq-eqb (length % 4) 0 (h .fours))
-
--- a pointer inside the rule, as numbers
-pub record Pointer (length pointer : ℕ) : Type 0 where
-  pub fours : pointer % 4 ≡ 0
-  pub below : pointer < length
-
-pub pointer-facts : (length pointer : ℕ) → pointerRight length pointer ≡ true → Pointer length pointer
-pointer-facts length pointer e =
-    let h = both (eqb (pointer % 4) 0) (ltb pointer length) e in
-    record { fours = eqb-true (pointer % 4) 0 (h .0); below = ltb-true pointer length (h .1) }
-
-pub pointer-holds : (length pointer : ℕ) → Pointer length pointer → pointerRight length pointer ≡ true
-pointer-holds length pointer h = rw (eq-eqb (pointer % 4) 0 (h .fours), lt-ltb pointer length (h .below))
 
 module _ (length pointer : ℕ) (n : ℕ) where
   pub next-near : pointer + n < length → nextOf length pointer n ≡ pointer + n

@@ -13,12 +13,14 @@ use lib.Seq.{take-append-le}
 use lib.Dec.{ltb, eqb}
 use Rattle.octets.proofs.Choice.{both, within-bounds, within-holds}
 use Rattle.mctp.specs.Packet.{packetSize, mostRight}
-use Rattle.ring.specs.Numbers.{lengthRight, setUpRight, pointerRight, pointersRight, filledOf, nextOf}
+use Rattle.mmbi.specs.Pointers.{pointerRight}
+use Rattle.ring.specs.Numbers.{lengthRight, setUpRight, pointersRight, filledOf, nextOf}
 use Rattle.ring.specs.Packet.{headerAt, wholeOf, paddingField, typeField, sizeOf, mctpType, packetOf}
 use Rattle.ring.specs.Reading.{packet, empty, skipped, refused, judged, foundOf, takenOf}
 use Rattle.ring.specs.Turn.{turn}
 use Rattle.ring.proofs.Orders.{past}
-use Rattle.ring.proofs.Numbers.{Length, length-facts, length-holds, Pointer, pointer-facts, pointer-holds, filled-below}
+use Rattle.mmbi.proofs.Pointers.{Pointer, pointer-facts, pointer-holds}
+use Rattle.ring.proofs.Numbers.{Length, length-facts, length-holds, filled-below}
 use Rattle.ring.proofs.Turns.{turn-length, turn-turn}
 
 -- which headers get 13, 14, 3, and which a packet

@@ -17,7 +17,8 @@ use Rattle.ring.specs.Turn.{turn, stored}
 use Rattle.ring.specs.Writing as writing
 use Rattle.ring.proofs.Headers.{bytes-length}
 use Rattle.ring.proofs.Held.{Holds, holds-none, holds-written, written-keeps, held-good, held-packet}
-use Rattle.ring.proofs.Numbers.{Length, length-facts, Pointer, filled-near, filled-room, next-near}
+use Rattle.mmbi.proofs.Pointers.{Pointer}
+use Rattle.ring.proofs.Numbers.{Length, length-facts, filled-near, filled-room, next-near}
 use Rattle.ring.proofs.Readings as readings
 use Rattle.ring.proofs.Readings.{SetUp}
 use Rattle.ring.proofs.Writings as writings

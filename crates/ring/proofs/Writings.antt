@@ -12,7 +12,8 @@ use Rattle.ring.specs.Numbers.{setUpRight, pointersRight, filledOf, room
 use Rattle.ring.specs.Packet.{wholeFor}
 use Rattle.ring.specs.Writing.{written, refused, putOf}
 use Rattle.ring.proofs.Orders.{past}
-use Rattle.ring.proofs.Numbers.{Pointer, filled-near, filled-room, filled-written}
+use Rattle.mmbi.proofs.Pointers.{Pointer}
+use Rattle.ring.proofs.Numbers.{filled-near, filled-room, filled-written}
 use Rattle.ring.proofs.Readings.{SetUp, set-up-facts, set-up-holds, pointers-facts, pointers-holds}
 
 -- which inputs get 1, 3, 11, 12 and 2, and which are written

@@ -2,17 +2,14 @@
 -- Assumes nothing.
 use Prim.Native.Nat.{ℕ, _+_, _-_, _%_}
 use mathlib.Core.Bool.{Bool, _&&_}
-use lib.Dec.{ltb, eqb}
+use lib.Dec.{eqb}
 use Rattle.octets.specs.Choice.{within}
 use Rattle.mctp.specs.Packet.{mostRight}
+use Rattle.mmbi.specs.Pointers.{pointerRight}
 
 -- "each ring length is a multiple of 4 from 128 to 65,536 (house rule)"
 abbrev pub lengthRight : ℕ → Bool
 lengthRight length = within 128 65536 length && eqb (length % 4) 0
-
--- "Pointers are byte offsets, multiples of 4", and below the length
-abbrev pub pointerRight : ℕ → ℕ → Bool
-pointerRight length pointer = eqb (pointer % 4) 0 && ltb pointer length
 
 -- what 1 asks: "length outside the rule, or not that of the lent ring"; a largest body outside its own rule is 1 too
 abbrev pub setUpRight : ℕ → ℕ → ℕ → Bool

@@ -18,7 +18,7 @@ pub fn set_up_right(most: usize, length: usize, lent: usize) -> bool
 pub fn pointers_right(length: usize, read: usize, write: usize) -> bool
     ensures { λ r. ⌜ r ≡ pointersRight length read write ⌝ }
 {
-    ((read % 4 == 0) & (read < length)) & ((write % 4 == 0) & (write < length))
+    mmbi::pointer_right(length, read) & mmbi::pointer_right(length, write)
 }
 
 // "5 to 68 in all", where 68 is 4 + `most`.

@@ -11,7 +11,8 @@ use Rattle.ring.specs.Packet.{headerAt, wholeOf}
 use Rattle.ring.specs.Turn.{turn}
 use Rattle.ring.specs.Reading.{judged}
 use Rattle.ring.proofs.Headers.{header-straight}
-use Rattle.ring.proofs.Numbers.{Pointer, filled-below}
+use Rattle.mmbi.proofs.Pointers.{Pointer}
+use Rattle.ring.proofs.Numbers.{filled-below}
 use Rattle.ring.proofs.Readings.{SetUp, set-up-facts, pointers-facts, taken-1, taken-2, taken-11, taken-12, taken-empty, taken-found}
 use borrow.Author.Needs.{needs}
 use Rattle.ring.proofs.reading.find.Statement.{statement}

@@ -9,7 +9,8 @@ use Rattle.octets.proofs.Choice.{within-bounds}
 use Rattle.mctp.specs.Packet.{packetSize}
 use Rattle.ring.specs.Numbers.{setUpRight, pointersRight, nextOf}
 use Rattle.ring.specs.Writing.{written}
-use Rattle.ring.proofs.Numbers.{Pointer, filled-high, filled-room}
+use Rattle.mmbi.proofs.Pointers.{Pointer}
+use Rattle.ring.proofs.Numbers.{filled-high, filled-room}
 use Rattle.ring.proofs.Readings.{SetUp, set-up-facts, pointers-facts}
 use Rattle.ring.proofs.Writings.{put-1, put-3, put-11, put-12, put-2, put-written}
 use borrow.Author.Needs.{needs}
