@@ -1,35 +1,36 @@
--- Two results that a contract allows are equal, for each public call.
+-- The contracts leave no choice: two results that one allows are equal, and so is every byte of the window at exit.
 -- Assumes nothing.
 use mathlib.Core.Path.{_≡_}
-use mathlib.Core.List.{List}
 use Prim.Native.Nat.{ℕ}
-use lib.ListN.{length}
+use contract.Lifetimes.{Lfts}
+use denote.Ref.{now}
 use Rattle.octets.proofs.Choice.{determined}
-use Rattle.mmbi.specs.declared.word.Word.{Word}
 use Rattle.descriptor.specs.declared.place.Place.{Place}
-use Rattle.descriptor.specs.declared.configuration.Configuration.{Configuration}
-use Rattle.descriptor.specs.declared.configuration.Part.{Part}
-use Rattle.window.specs.declared.word.Pointer.{Pointer}
 use Rattle.window.specs.declared.word.Interface.{Interface}
-use Rattle.window.specs.Window.{setupOf, placeIn, partOf, interfaceIn, stored, storedPointer}
+use Rattle.window.proofs.part.refusal.Reads as refusal
+use Rattle.window.proofs.part.place_of.Reads as place-of
+use Rattle.window.proofs.part.cut.Reads as cut
+use Rattle.window.proofs.word.look.Reads as look
+use Rattle.window.proofs.word.store.Reads as store
+use Rattle.window.proofs.word.store_pointer.Reads as store-pointer
 
-module _ (s : List ℕ) (c : Configuration) where
-  pub refusal-determined : {a b : ℕ} → a ≡ setupOf (length s) c → b ≡ setupOf (length s) c → a ≡ b
-  refusal-determined = determined
+pub refusal-determined : (κs : Lfts 1) (a : _) (r q : ℕ) (e f : _) → refusal.Post κs a r e → refusal.Post κs a q f → r ≡ q
+refusal-determined κs a r q e f p o = determined p o
 
-  pub place-of-determined : (part : Part) {a b : Place} → a ≡ placeIn (length s) c part → b ≡ placeIn (length s) c part → a ≡ b
-  place-of-determined part = determined
+pub place-of-determined : (κs : Lfts 1) (a : _) (r q : Place) (e f : _) → place-of.Post κs a r e → place-of.Post κs a q f → r ≡ q
+place-of-determined κs a r q e f p o = determined p o
 
-  -- of `cut` and of `cut_mut`: the bytes that the part shows
-  pub cut-determined : (part : Part) {a b : List ℕ} → a ≡ partOf s c part → b ≡ partOf s c part → a ≡ b
-  cut-determined part = determined
+-- the part shows the same bytes; where it lies is not said
+pub cut-determined : (κs : Lfts 1) (a r q e f : _) → cut.Post κs a r e → cut.Post κs a q f → now r ≡ now q
+cut-determined κs a r q e f p o = determined p o
 
-  pub look-determined : {a b : Interface} → a ≡ interfaceIn s c → b ≡ interfaceIn s c → a ≡ b
-  look-determined = determined
+pub look-determined : (κs : Lfts 1) (a : _) (r q : Interface) (e f : _) → look.Post κs a r e → look.Post κs a q f → r ≡ q
+look-determined κs a r q e f p o = determined p o
 
-  -- the whole window at exit
-  pub store-determined : (p : Pointer) (w : Word) {a b : List ℕ} → a ≡ stored s c p w → b ≡ stored s c p w → a ≡ b
-  store-determined p w = determined
+pub store-determined : (κs : Lfts 1) (a : _) (r q : ℕ) (e f : _) → store.Post κs a r e → store.Post κs a q f
+    → (r ≡ q) × (e .0 .now ≡ f .0 .now)
+store-determined κs a r q e f p o = (determined (p .0) (o .0), determined (p .1) (o .1))
 
-  pub store-pointer-determined : (p : Pointer) (at : ℕ) {a b : List ℕ} → a ≡ storedPointer s c p at → b ≡ storedPointer s c p at → a ≡ b
-  store-pointer-determined p at = determined
+pub store-pointer-determined : (κs : Lfts 1) (a : _) (r q : ℕ) (e f : _) → store-pointer.Post κs a r e → store-pointer.Post κs a q f
+    → (r ≡ q) × (e .0 .now ≡ f .0 .now)
+store-pointer-determined κs a r q e f p o = (determined (p .0) (o .0), determined (p .1) (o .1))

@@ -11,7 +11,7 @@ use Rattle.mmbi.specs.Words.{wordOf, numberOf}
 use Rattle.descriptor.specs.Configuration.{inside, clear, ringRight, allowed}
 use Rattle.descriptor.proofs.Literal.{descriptorImage, rosImage, windowImage, imageConfiguration}
 use Rattle.window.specs.declared.word.Pointer.the-variants.{H2bWrite}
-use Rattle.window.specs.Window.{cleared, wordIn, interfaceIn, stored, storedPointer}
+use Rattle.window.specs.Window.{cleared, wordIn, interfaceIn, storeRefusal, stored, storedPointer}
 
 -- both words of Host_RWS and of Host_ROS
 pub image-words :
@@ -37,5 +37,5 @@ word-reset = refl
 
 -- H2B_WP moved on to 36: H_UP stays (00 00 00 26)
 pub image-stored : storedPointer windowImage imageConfiguration H2bWrite 36 ≡ descriptorImage ++ (rosImage ++ (0 ∷ 0 ∷ 0 ∷ 38 ∷ 0 ∷ 0 ∷ 0 ∷ 5 ∷ []) ++ replicate 260 0)
-unfolding storedPointer stored wordIn cleared wordOf numberOf allowed inside clear ringRight wordAt wordBytes laid
+unfolding storedPointer stored storeRefusal wordIn cleared wordOf numberOf allowed inside clear ringRight wordAt wordBytes laid
 image-stored = refl

@@ -1,28 +1,35 @@
 -- Words stored into a window: what is stored reads back, a pointer stored alone loses no flag, and no byte of a ring
 -- changes.
 -- Assumes nothing.
-use mathlib.Core.Path.{_≡_, refl, ap, _∙_}
+use mathlib.Core.Path.{_≡_, refl, ap, sym, subst, _∙_}
 use mathlib.Core.Bool.{Bool, true, false, _&&_, and-assoc, and-self, false≢true}
 use mathlib.Core.List.{List}
 use mathlib.Core.Logic.{_⊎_, inl, inr, ⊎-elim}
-use Prim.Native.Nat.{ℕ, _+_, _%_, _^_, _≤_, _<_}
+use mathlib.Core.Logic.{dite}
+use Prim.Native.Nat.{ℕ, suc, _+_, _≤_}
+use native.Mathlib.Decide.{ℕ-discrete}
 use native.Mathlib.Omega.{arith}
+use borrow.Author.Tests.{eq-eqb, ne-eqb}
+use lib.Dec.{eqb}
 use lib.ListN.{length}
 use Rattle.octets.specs.Bytes.{laid}
 use Rattle.octets.specs.Choice.{pick}
 use Rattle.octets.specs.Words.{highFirst, wordAt, wordBytes}
 use Rattle.octets.proofs.Laid.{laid-length}
 use Rattle.mmbi.specs.declared.word.Word.{Word}
+use Rattle.mmbi.specs.Pointers.{pointerRight}
 use Rattle.mmbi.specs.Words.{wordOf, numberOf}
-use Rattle.mmbi.proofs.Words.{word-back, flags-kept, number-below}
+use Rattle.mmbi.proofs.Pointers.{Pointer as In, pointer-facts}
+use Rattle.mmbi.proofs.Words.{word-back, number-below}
 use Rattle.descriptor.specs.declared.configuration.Configuration.{Configuration}
 use Rattle.descriptor.specs.declared.configuration.Part.{Part}
 use Rattle.descriptor.specs.declared.configuration.Part.the-variants.{B2h, H2b, Ros, Rws}
 use Rattle.window.specs.declared.word.Pointer.{Pointer}
 use Rattle.window.specs.declared.word.Pointer.the-variants.{H2bWrite, B2hRead, B2hWrite, H2bRead}
 use Rattle.descriptor.specs.Configuration.{partPlace, isRing, allowed, Clear, Allowed}
-use Rattle.window.specs.Window.{placeIn, bytesAt, partOf, wordPlace, hasUp, cleared, wordIn, stored, storedPointer}
+use Rattle.window.specs.Window.{placeIn, bytesAt, partOf, wordPlace, hasUp, cleared, wordIn, pointsInto, storeRefusal, stored, storedPointer}
 use Rattle.descriptor.proofs.Configurations.{allowed-facts}
+use Rattle.window.proofs.Parts.{ring-right}
 use Rattle.window.proofs.LaidWords.{laid-word, laid-beside, laid-word-beside, word-length}
 
 -- clearing what is reserved once is enough
@@ -39,74 +46,106 @@ word-fits window c B2hRead a = omega (arith, a .rws)
 word-fits window c B2hWrite a = omega (arith, a .ros)
 word-fits window c H2bRead a = omega (arith, a .ros)
 
+-- the ring that a pointer points into is one
+points-into-ring : (p : Pointer) → isRing (pointsInto p) ≡ true
+points-into-ring H2bWrite = refl
+points-into-ring B2hRead = refl
+points-into-ring B2hWrite = refl
+points-into-ring H2bRead = refl
+
+-- nothing is refused of a pointer that an allowed configuration's ring can have, and of no other
+pub store-good : (window : ℕ) (c : Configuration) (p : Pointer) (at : ℕ) → allowed window c ≡ true
+    → pointerRight (partPlace c (pointsInto p) .length) at ≡ true → storeRefusal window c p at ≡ 0
+unfolding storeRefusal
+store-good window c p at ok right = rw (ok, right)
+
+pub store-facts : (window : ℕ) (c : Configuration) (p : Pointer) (at : ℕ) → storeRefusal window c p at ≡ 0
+    → (allowed window c ≡ true) × In (partPlace c (pointsInto p) .length) at
+unfolding storeRefusal
+store-facts window c p at e =
+    let n = partPlace c (pointsInto p) .length in
+    let a = checked 0 (allowed window c) _ e in
+    (a .0, pointer-facts n at (checked 11 (pointerRight n at) 0 (a .1) .0))
+  where
+    -- a test whose failure gives a number that isn't 0 has held
+    checked : (k : ℕ) (b : Bool) (x : ℕ) → pick b x (suc k) ≡ 0 → (b ≡ true) × (x ≡ 0)
+    checked k true x e = (refl, e)
+    checked k false x e = absurd (omega (arith, e))
+
 -- the window keeps its length
 pub stored-length : (s : List ℕ) (c : Configuration) (p : Pointer) (w : Word) → length (stored s c p w) ≡ length s
 unfolding stored
-stored-length s c p w = kept (allowed (length s) c)
+stored-length s c p w = kept (eqb (storeRefusal (length s) c p (w .pointer)) 0)
   where
     kept : (b : Bool) → length (pick b (laid s (wordPlace c p) (wordBytes highFirst (numberOf (cleared p w)))) s) ≡ length s
     kept true = laid-length s (wordPlace c p) (wordBytes highFirst (numberOf (cleared p w)))
     kept false = refl
 
 -- where refused nothing is stored
-pub stored-refused : (s : List ℕ) (c : Configuration) (p : Pointer) (w : Word) → allowed (length s) c ≡ false → stored s c p w ≡ s
+pub stored-refused : (s : List ℕ) (c : Configuration) (p : Pointer) (w : Word)
+    → (storeRefusal (length s) c p (w .pointer) ≡ 0 → ⊥) → stored s c p w ≡ s
 unfolding stored
-stored-refused s c p w e = rw e
+stored-refused s c p w never = rw (ne-eqb (storeRefusal (length s) c p (w .pointer)) 0 never)
 
-module _ (s : List ℕ) (c : Configuration) (p : Pointer) (w : Word) (ok : allowed (length s) c ≡ true) where
+module _ (s : List ℕ) (c : Configuration) (p : Pointer) (w : Word) (good : storeRefusal (length s) c p (w .pointer) ≡ 0) where
+  ok : allowed (length s) c ≡ true
+  ok = store-facts (length s) c p (w .pointer) good .0
+
   stored-laid : stored s c p w ≡ laid s (wordPlace c p) (wordBytes highFirst (numberOf (cleared p w)))
   unfolding stored
-  stored-laid = rw ok
+  stored-laid = rw (eq-eqb (storeRefusal (length s) c p (w .pointer)) 0 good)
 
   number-stored : wordAt highFirst (stored s c p w) (wordPlace c p) ≡ numberOf (cleared p w)
-  number-stored = rw stored-laid (laid-word highFirst s (wordPlace c p) (numberOf (cleared p w)) (word-fits (length s) c p (allowed-facts (length s) c ok)) (number-below (cleared p w)))
+  number-stored =
+      rw stored-laid
+      (laid-word highFirst s (wordPlace c p) (numberOf (cleared p w))
+      (word-fits (length s) c p (allowed-facts (length s) c ok))
+      (number-below (cleared p w)))
 
   word-stored : wordIn (stored s c p w) c p ≡ cleared p (wordOf (numberOf (cleared p w)))
   unfolding wordIn
   word-stored = rw (stored-length s c p w, ok, number-stored)
 
   -- a word that is stored reads back
-  pub stored-back : w .pointer % 4 ≡ 0 → w .pointer < 2 ^ 32 → wordIn (stored s c p w) c p ≡ cleared p w
+  pub stored-back : wordIn (stored s c p w) c p ≡ cleared p w
   unfolding cleared
-  stored-back h k = word-stored ∙ ap (cleared p) (word-back (cleared p w) h k) ∙ cleared-twice p w
+  stored-back =
+      let pointer = store-facts (length s) c p (w .pointer) good .1 in
+      let high = ring-right (length s) c (pointsInto p) (points-into-ring p) (allowed-facts (length s) c ok) .most in
+      word-stored
+      ∙ ap (cleared p) (word-back (cleared p w) (pointer .fours) (omega (arith, pointer .below, high)))
+      ∙ cleared-twice p w
 
-  -- its flags do whatever the pointer is
-  pub stored-flags : (wordIn (stored s c p w) c p .high ≡ cleared p w .high) × (wordIn (stored s c p w) c p .low ≡ w .low)
-  unfolding cleared wordOf
-  stored-flags =
-      let high : wordOf (numberOf (cleared p w)) .high ≡ cleared p w .high = flags-kept (cleared p w) .0 in
-      let low : wordOf (numberOf (cleared p w)) .low ≡ w .low = flags-kept (cleared p w) .1 in (
-        ap (λ (x : Word). x .high) word-stored ∙ ap (λ (u : Bool). u && hasUp p) high ∙ ap (λ (x : Word). x .high) (cleared-twice p w),
-        ap (λ (x : Word). x .low) word-stored ∙ low,
-      )
-
--- a pointer stored alone loses no flag, whatever number it is
-pub pointer-keeps-flags : (s : List ℕ) (c : Configuration) (p : Pointer) (at : ℕ) → allowed (length s) c ≡ true
-    → (wordIn (storedPointer s c p at) c p .high ≡ wordIn s c p .high) × (wordIn (storedPointer s c p at) c p .low ≡ wordIn s c p .low)
+-- a pointer stored alone reads back, and loses no flag
+pub pointer-back : (s : List ℕ) (c : Configuration) (p : Pointer) (at : ℕ) → storeRefusal (length s) c p at ≡ 0
+    → wordIn (storedPointer s c p at) c p
+    ≡ record { pointer = at; high = wordIn s c p .high; low = wordIn s c p .low }
 unfolding storedPointer cleared wordIn
-pointer-keeps-flags s c p at ok =
+pointer-back s c p at good =
     let held = wordIn s c p in
     let w : Word = record { pointer = at; high = held .high; low = held .low } in
-    let f = stored-flags s c p w ok in
-    (f .0 ∙ ap (λ (x : Word). x .high) (cleared-twice p (wordOf (pick (allowed (length s) c) (wordAt highFirst s (wordPlace c p)) 0))), f .1)
+    let high : (held .high && hasUp p) ≡ held .high =
+    ap (λ (x : Word). x .high) (cleared-twice p (wordOf (pick (allowed (length s) c) (wordAt highFirst s (wordPlace c p)) 0))) in
+    stored-back s c p w good ∙ (λ i. record { pointer = at; high = high i; low = held .low })
 
-kept-word : (s : List ℕ) (c : Configuration) (p : Pointer) (w : Word) (q : Pointer) → (wordPlace c p + 4 ≤ wordPlace c q) ⊎ (wordPlace c q + 4 ≤ wordPlace c p)
-    → allowed (length s) c ≡ true → wordIn (stored s c p w) c q ≡ wordIn s c q
-unfolding wordIn
-kept-word s c p w q h ok =
-    let n = numberOf (cleared p w) in
-    let same : wordAt highFirst (stored s c p w) (wordPlace c q) ≡ wordAt highFirst s (wordPlace c q) =
-    rw (stored-laid s c p w ok) (laid-word-beside highFirst s (wordPlace c p) (wordBytes highFirst n) (wordPlace c q) (rw (word-length highFirst n) h)) in
-    rw (stored-length s c p w, ok, same)
+-- what holds of the window, and of what is laid over it, holds of what is stored, refused or not
+stored-either : (s : List ℕ) (c : Configuration) (p : Pointer) (w : Word) (P : List ℕ → Type 0)
+    → P s → (storeRefusal (length s) c p (w .pointer) ≡ 0 → P (stored s c p w)) → P (stored s c p w)
+stored-either s c p w P same good =
+    dite (ℕ-discrete (storeRefusal (length s) c p (w .pointer)) 0) good
+    (λ (never : storeRefusal (length s) c p (w .pointer) ≡ 0 → ⊥). subst P (sym (stored-refused s c p w never)) same)
 
 -- a word that does not overlap the one that is stored stays
-pub store-keeps-others : (s : List ℕ) (c : Configuration) (p : Pointer) (w : Word) (q : Pointer) → (wordPlace c p + 4 ≤ wordPlace c q) ⊎ (wordPlace c q + 4 ≤ wordPlace c p)
-    → wordIn (stored s c p w) c q ≡ wordIn s c q
-store-keeps-others s c p w q h = by-test (allowed (length s) c) refl
-  where
-    by-test : (b : Bool) → allowed (length s) c ≡ b → wordIn (stored s c p w) c q ≡ wordIn s c q
-    by-test true ok = kept-word s c p w q h ok
-    by-test false e = ap (λ (l : List ℕ). wordIn l c q) (stored-refused s c p w e)
+pub store-keeps-others : (s : List ℕ) (c : Configuration) (p : Pointer) (w : Word) (q : Pointer)
+    → (wordPlace c p + 4 ≤ wordPlace c q) ⊎ (wordPlace c q + 4 ≤ wordPlace c p) → wordIn (stored s c p w) c q ≡ wordIn s c q
+unfolding wordIn
+store-keeps-others s c p w q h =
+    stored-either s c p w (λ (l : List ℕ). wordIn l c q ≡ wordIn s c q) refl
+    (λ (good : storeRefusal (length s) c p (w .pointer) ≡ 0).
+      let n = numberOf (cleared p w) in
+      let same : wordAt highFirst (stored s c p w) (wordPlace c q) ≡ wordAt highFirst s (wordPlace c q) =
+      rw (stored-laid s c p w good) (laid-word-beside highFirst s (wordPlace c p) (wordBytes highFirst n) (wordPlace c q) (rw (word-length highFirst n) h)) in
+      rw (stored-length s c p w, same))
 
 -- a ring is clear of both structures
 ring-clear : (window : ℕ) (c : Configuration) (ring : Part) → isRing ring ≡ true → Allowed window c → Clear c (partPlace c ring)
@@ -122,21 +161,16 @@ beside c B2hRead ring k = ⊎-elim (λ (h : _). inr (omega arith)) (λ (h : _). 
 beside c B2hWrite ring k = ⊎-elim (λ (h : _). inr h) (λ (h : _). inl (omega arith)) (k .ros)
 beside c H2bRead ring k = ⊎-elim (λ (h : _). inr (omega arith)) (λ (h : _). inl (omega arith)) (k .ros)
 
-kept-ring : (s : List ℕ) (c : Configuration) (p : Pointer) (w : Word) (ring : Part) → isRing ring ≡ true → allowed (length s) c ≡ true
+-- a word that is stored changes no byte of a ring
+pub store-keeps-rings : (s : List ℕ) (c : Configuration) (p : Pointer) (w : Word) (ring : Part) → isRing ring ≡ true
     → partOf (stored s c p w) c ring ≡ partOf s c ring
 unfolding partOf placeIn
-kept-ring s c p w ring r ok =
-    let q = partPlace c ring in
-    let n = numberOf (cleared p w) in
-    let clear : Clear c q = ring-clear (length s) c ring r (allowed-facts (length s) c ok) in
-    rw (stored-length s c p w, ok)
-    (ap (λ (l : List ℕ). bytesAt l q) (stored-laid s c p w ok)
-    ∙ laid-beside s (wordPlace c p) (wordBytes highFirst n) (q .offset) (q .length) (rw (word-length highFirst n) (beside c p ring clear)))
-
--- a word that is stored changes no byte of a ring
-pub store-keeps-rings : (s : List ℕ) (c : Configuration) (p : Pointer) (w : Word) (ring : Part) → isRing ring ≡ true → partOf (stored s c p w) c ring ≡ partOf s c ring
-store-keeps-rings s c p w ring r = by-test (allowed (length s) c) refl
-  where
-    by-test : (b : Bool) → allowed (length s) c ≡ b → partOf (stored s c p w) c ring ≡ partOf s c ring
-    by-test true ok = kept-ring s c p w ring r ok
-    by-test false e = ap (λ (l : List ℕ). partOf l c ring) (stored-refused s c p w e)
+store-keeps-rings s c p w ring r =
+    stored-either s c p w (λ (l : List ℕ). partOf l c ring ≡ partOf s c ring) refl
+    (λ (good : storeRefusal (length s) c p (w .pointer) ≡ 0).
+      let q = partPlace c ring in
+      let n = numberOf (cleared p w) in
+      let clear : Clear c q = ring-clear (length s) c ring r (allowed-facts (length s) c (ok s c p w good)) in
+      rw (stored-length s c p w, ok s c p w good)
+      (ap (λ (l : List ℕ). bytesAt l q) (stored-laid s c p w good)
+      ∙ laid-beside s (wordPlace c p) (wordBytes highFirst n) (q .offset) (q .length) (rw (word-length highFirst n) (beside c p ring clear))))

@@ -3,17 +3,20 @@
 use Prim.Native.Nat.{ℕ, _+_}
 use mathlib.Core.Bool.{Bool, true, false, _&&_}
 use mathlib.Core.List.{List}
+use lib.Dec.{eqb}
 use lib.ListN.{length, take, drop}
 use Rattle.octets.specs.Bytes.{laid}
 use Rattle.octets.specs.Choice.{pick}
 use Rattle.octets.specs.Words.{highFirst, wordAt, wordBytes}
 use Rattle.mmbi.specs.declared.word.Word.{Word}
 use Rattle.mmbi.specs.Interface.{flagsOf}
+use Rattle.mmbi.specs.Pointers.{pointerRight}
 use Rattle.mmbi.specs.Words.{wordOf, numberOf}
 use Rattle.descriptor.specs.Configuration.{partPlace, allowed}
 use Rattle.descriptor.specs.declared.place.Place.{Place}
 use Rattle.descriptor.specs.declared.configuration.Configuration.{Configuration}
 use Rattle.descriptor.specs.declared.configuration.Part.{Part}
+use Rattle.descriptor.specs.declared.configuration.Part.the-variants.{B2h, H2b}
 use Rattle.window.specs.declared.word.Pointer.{Pointer}
 use Rattle.window.specs.declared.word.Pointer.the-variants.{H2bWrite, B2hRead, B2hWrite, H2bRead}
 use Rattle.window.specs.declared.word.Interface.{Interface}
@@ -67,9 +70,24 @@ interfaceIn s c =
       «controller_ready» = wordIn s c H2bRead .low;
     }
 
+-- whose pointer it is: "H2B_WP" and "H2B_RP" are the H2B ring's, the other two the B2H ring's
+abbrev pub pointsInto : Pointer → Part
+pointsInto H2bWrite = H2b
+pointsInto B2hRead = B2h
+pointsInto B2hWrite = B2h
+pointsInto H2bRead = H2b
+
+-- 1: a configuration that the window doesn't allow; 12: "not a multiple of 4, or not below the length" of its ring
+unfoldable pub storeRefusal : ℕ → Configuration → Pointer → ℕ → ℕ
+storeRefusal window c p at =
+    pick (allowed window c) (pick (pointerRight (partPlace c (pointsInto p) .length) at) 0 12) 1
+
 -- the window after a word is stored: its four bytes, and where refused none
 unfoldable pub stored : List ℕ → Configuration → Pointer → Word → List ℕ
-stored s c p w = pick (allowed (length s) c) (laid s (wordPlace c p) (wordBytes highFirst (numberOf (cleared p w)))) s
+stored s c p w =
+    pick (eqb (storeRefusal (length s) c p (w .pointer)) 0)
+    (laid s (wordPlace c p) (wordBytes highFirst (numberOf (cleared p w))))
+    s
 
 -- the window after a pointer alone is stored: the flags are those that stood there
 unfoldable pub storedPointer : List ℕ → Configuration → Pointer → ℕ → List ℕ

@@ -3,7 +3,6 @@ mod part;
 mod word;
 
 pub use part::cut;
-pub use part::cut_mut;
 pub use part::place_of;
 pub use part::refusal;
 pub use word::Interface;

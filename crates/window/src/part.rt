@@ -47,14 +47,3 @@ pub fn cut(window: &[u8], c: Configuration, which: Part) -> &[u8]
     let to = descriptor::end(p);
     &window[from..to]
 }
-
-// The part to write to; empty where refused. A contract can't speak of the window once the part is back: who needs
-// that takes the place and lends the part from its own window.
-pub fn cut_mut(window: &mut [u8], c: Configuration, which: Part) -> &mut [u8]
-    ensures { λ r. ⌜ now r ≡ partOf (now (window .entry)) c which ⌝ }
-{
-    let p = place_in(window.len(), c, which);
-    let from = p.offset as usize;
-    let to = descriptor::end(p);
-    &mut window[from..to]
-}

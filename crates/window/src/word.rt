@@ -1,5 +1,6 @@
 // The words of Host_RWS and Host_ROS in a window: read, and stored. Any configuration may be handed in here too.
 use descriptor::Configuration;
+use descriptor::Part;
 use mmbi::Flags;
 use mmbi::Word;
 ghost use mathlib.Core.Path.{_≡_};
@@ -7,7 +8,8 @@ ghost use lib.ListN.{length};
 ghost use Rattle.octets.specs.Choice.{pick};
 ghost use Rattle.octets.specs.Words.{highFirst, wordAt};
 ghost use Rattle.mmbi.specs.Words.{wordOf};
-ghost use Rattle.window.specs.Window.{wordPlace, hasUp, cleared, interfaceIn, stored, storedPointer};
+ghost use Rattle.window.specs.Window.{wordPlace, hasUp, cleared, interfaceIn};
+ghost use Rattle.window.specs.Window.{pointsInto, storeRefusal, stored, storedPointer};
 
 // The four pointers, by the words that hold them: H2B_WP and B2H_RP in Host_RWS, B2H_WP and H2B_RP in Host_ROS.
 pub enum Pointer {
@@ -109,18 +111,48 @@ pub fn look(window: &[u8], c: Configuration) -> Interface
     }
 }
 
-// The word, pointer and flags, stored where this pointer is held; where refused nothing is stored.
-pub fn store(window: &mut [u8], c: Configuration, which: Pointer, word: Word)
-    ensures { λ _. ⌜ now (window .exit) ≡ stored (now (window .entry)) c which word ⌝ }
+fn points_into(which: Pointer) -> Part
+    ensures { λ r. ⌜ r ≡ pointsInto which ⌝ }
 {
-    if descriptor::is_allowed(window.len(), c) {
-        let n = without_reserved(which, word).number();
-        octets::lay_high_first(window, word_place(c, which), n);
+    match which {
+        Pointer::H2bWrite => Part::H2b,
+        Pointer::B2hRead => Part::B2h,
+        Pointer::B2hWrite => Part::B2h,
+        Pointer::H2bRead => Part::H2b,
     }
 }
 
-// The pointer alone, with the flags that stand beside it; where refused nothing is stored.
-pub fn store_pointer(window: &mut [u8], c: Configuration, which: Pointer, pointer: usize)
+// Whether this pointer may be stored: 1, 12, or 0 where it may.
+fn refusal_to_store(window: usize, c: Configuration, which: Pointer, pointer: usize) -> u8
+    ensures { λ r. ⌜ r ≡ storeRefusal window c which pointer ⌝ }
+{
+    if !descriptor::is_allowed(window, c) {
+        return 1;
+    }
+    let ring = descriptor::part_place(c, points_into(which));
+    if mmbi::pointer_right(ring.length as usize, pointer) {
+        0
+    } else {
+        12
+    }
+}
+
+// The word, pointer and flags, stored where this pointer is held; 0, or the refusal's number with nothing stored.
+pub fn store(window: &mut [u8], c: Configuration, which: Pointer, word: Word) -> u8
+    ensures { λ r. ⌜ r ≡ storeRefusal (length (now (window .entry))) c which (word .pointer) ⌝ }
+    ensures { λ _. ⌜ now (window .exit) ≡ stored (now (window .entry)) c which word ⌝ }
+{
+    let refusal = refusal_to_store(window.len(), c, which, word.pointer);
+    if refusal == 0 {
+        let n = without_reserved(which, word).number();
+        octets::lay_high_first(window, word_place(c, which), n);
+    }
+    refusal
+}
+
+// The pointer alone, with the flags that stand beside it; 0, or the refusal's number with nothing stored.
+pub fn store_pointer(window: &mut [u8], c: Configuration, which: Pointer, pointer: usize) -> u8
+    ensures { λ r. ⌜ r ≡ storeRefusal (length (now (window .entry))) c which pointer ⌝ }
     ensures { λ _. ⌜ now (window .exit) ≡ storedPointer (now (window .entry)) c which pointer ⌝ }
 {
     let ok = descriptor::is_allowed(window.len(), c);
@@ -134,5 +166,5 @@ pub fn store_pointer(window: &mut [u8], c: Configuration, which: Pointer, pointe
             high: held.high,
             low: held.low,
         },
-    );
+    )
 }

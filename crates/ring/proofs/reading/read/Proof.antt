@@ -1,9 +1,5 @@
 -- `ring::reading::read` meets its contract: the base's largest body, and the interface's state for the flag.
 -- Assumes nothing.
-use mathlib.Core.Path.{ap, _∙_}
-use mathlib.Core.Bool.{Bool}
-use Rattle.mmbi.specs.Interface.{mayRead}
-use Rattle.ring.specs.Reading.{readOf}
 use borrow.Author.Needs.{needs}
 use Rattle.ring.proofs.reading.read.Statement.{statement}
 use Rattle.ring.proofs.reading.read.Tie as tie
@@ -22,9 +18,9 @@ same-length c = search needs
 
 returns : tie.Need-returns
 returns c =
-    let a = c .before .before .before .before .before .before .before .before .args in
-    c .before .before .read-up-to .ensures
-    ∙ ap (λ (running : Bool). readOf 64 (a .ring .now) (a .configured) running (a .read) (a .write) (a .out .now)) (c .before .before .before .before .may-read .ensures ∙ ap mayRead (c .before .before .before .before .before .state .ensures))
+    let all = c .before .before in
+    let state = all .before .before in
+    cc (all .read-up-to .ensures, state .may-read .ensures, state .before .state .ensures)
 
 pub read-spec : {M : Type 1} → statement M
 read-spec =

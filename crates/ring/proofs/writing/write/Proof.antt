@@ -1,9 +1,5 @@
 -- `ring::writing::write` meets its contract: the base's largest body, and the interface's state for the flag.
 -- Assumes nothing.
-use mathlib.Core.Path.{ap, _∙_}
-use mathlib.Core.Bool.{Bool}
-use Rattle.mmbi.specs.Interface.{mayWrite}
-use Rattle.ring.specs.Writing.{writeOf}
 use borrow.Author.Needs.{needs}
 use Rattle.ring.proofs.writing.write.Statement.{statement}
 use Rattle.ring.proofs.writing.write.Tie as tie
@@ -22,9 +18,9 @@ same-length c = search needs
 
 returns : tie.Need-returns
 returns c =
-    let a = c .before .before .before .before .before .before .before .before .args in
-    c .before .before .write-up-to .ensures
-    ∙ ap (λ (running : Bool). writeOf 64 (a .ring .now) (a .configured) running (a .read) (a .write) (a .packet .now)) (c .before .before .before .before .may-write .ensures ∙ ap mayWrite (c .before .before .before .before .before .state .ensures))
+    let all = c .before .before in
+    let state = all .before .before in
+    cc (all .write-up-to .ensures, state .may-write .ensures, state .before .state .ensures)
 
 pub write-spec : {M : Type 1} → statement M
 write-spec =
