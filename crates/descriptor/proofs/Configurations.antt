@@ -10,7 +10,7 @@ use Rattle.octets.proofs.Choice.{both, within-bounds, within-holds}
 use Rattle.descriptor.specs.declared.place.Place.{Place}
 use Rattle.descriptor.specs.declared.configuration.Configuration.{Configuration}
 use Rattle.descriptor.specs.Places.{liesIn, apart}
-use Rattle.descriptor.specs.Configuration.{descriptorPlace, structureAt, inside, clear, ringRight, allowed, RingRight, Clear, Allowed}
+use Rattle.descriptor.specs.Configuration.{descriptorPlace, structureAt, inside, clear, ringRight, onUnits, allowed, RingRight, Clear, OnUnits, Allowed}
 use Rattle.descriptor.proofs.Places.{and, apart-fact, apart-holds, lies-fact, lies-holds}
 
 ring-facts : (ring : Place) → ringRight ring ≡ true → RingRight ring
@@ -45,6 +45,19 @@ clear-holds c ring h =
     (and (apart-holds ring descriptorPlace (h .descriptor)) (apart-holds ring (structureAt (c .ros)) (h .ros)))
     (apart-holds ring (structureAt (c .rws)) (h .rws))
 
+units-facts : (c : Configuration) → onUnits c ≡ true → OnUnits c
+units-facts c e =
+    let b = eqb (c .b2h .offset % 8) 0 in
+    let h = eqb (c .h2b .offset % 8) 0 in
+    let o = eqb (c .ros % 8) 0 in
+    let t = both (b && h && o) (eqb (c .rws % 8) 0) e in
+    let u = both (b && h) o (t .0) in
+    let v = both b h (u .0) in
+    record { b2h = eqb-true _ _ (v .0); h2b = eqb-true _ _ (v .1); ros = eqb-true _ _ (u .1); rws = eqb-true _ _ (t .1) }
+
+units-hold : (c : Configuration) → OnUnits c → onUnits c ≡ true
+units-hold c u = rw (u .b2h, u .h2b, u .ros, u .rws)
+
 -- an allowed configuration has every one of the facts
 pub allowed-facts : (window : ℕ) (c : Configuration) → allowed window c ≡ true → Allowed window c
 unfolding allowed inside
@@ -57,7 +70,8 @@ allowed-facts window c e =
     let h = liesIn window (c .h2b) in
     let o = liesIn window (structureAt (c .ros)) in
     let w = liesIn window (structureAt (c .rws)) in
-    let t1 = both (inside window c && rings && one && other && ringRight (c .b2h)) (ringRight (c .h2b)) e in
+    let t0 = both (inside window c && rings && one && other && ringRight (c .b2h) && ringRight (c .h2b)) (onUnits c) e in
+    let t1 = both (inside window c && rings && one && other && ringRight (c .b2h)) (ringRight (c .h2b)) (t0 .0) in
     let t2 = both (inside window c && rings && one && other) (ringRight (c .b2h)) (t1 .0) in
     let t3 = both (inside window c && rings && one) other (t2 .0) in
     let t4 = both (inside window c && rings) one (t3 .0) in
@@ -77,6 +91,7 @@ allowed-facts window c e =
       h2b-clear = clear-facts c (c .h2b) (t3 .1);
       b2h-right = ring-facts (c .b2h) (t2 .1);
       h2b-right = ring-facts (c .h2b) (t1 .1);
+      units = units-facts c (t0 .1);
     }
 
 -- and one that has them all is allowed
@@ -93,4 +108,5 @@ allowed-holds window c a =
     let other : clear c (c .h2b) ≡ true = clear-holds c (c .h2b) (a .h2b-clear) in
     let right : ringRight (c .b2h) ≡ true = ring-holds (c .b2h) (a .b2h-right) in
     let right-too : ringRight (c .h2b) ≡ true = ring-holds (c .h2b) (a .h2b-right) in
-    and (and (and (and (and (and (and (and (and front b2h) h2b) ros) rws) rings) one) other) right) right-too
+    let units : onUnits c ≡ true = units-hold c (a .units) in
+    and (and (and (and (and (and (and (and (and (and front b2h) h2b) ros) rws) rings) one) other) right) right-too) units

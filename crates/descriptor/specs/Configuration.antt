@@ -53,7 +53,12 @@ clear c ring =
 unfoldable pub ringRight : Place → Bool
 ringRight ring = within 128 65536 (ring .length) && eqb (ring .length % 4) 0
 
--- "Accepted exactly if": the part of the list that is about places
+-- "bases in 8-byte units in bits 28..0": a descriptor can give no other base
+abbrev pub onUnits : Configuration → Bool
+onUnits c = eqb (c .b2h .offset % 8) 0 && eqb (c .h2b .offset % 8) 0 && eqb (c .ros % 8) 0 && eqb (c .rws % 8) 0
+
+-- "Accepted exactly if": the part of the list that is about places. A configuration may also be stored state, so its
+-- bases are looked at too: it is allowed exactly if some descriptor gives it.
 unfoldable pub allowed : ℕ → Configuration → Bool
 allowed window c =
     inside window c
@@ -62,6 +67,7 @@ allowed window c =
     && clear c (c .h2b)
     && ringRight (c .b2h)
     && ringRight (c .h2b)
+    && onUnits c
 
 -- what makes a ring's length right
 pub record RingRight (ring : Place) : Type 0 where
@@ -75,6 +81,13 @@ pub record Clear (c : Configuration) (ring : Place) : Type 0 where
   pub ros : Apart ring (structureAt (c .ros))
   pub rws : Apart ring (structureAt (c .rws))
 
+-- what makes every base one that a descriptor can give
+pub record OnUnits (c : Configuration) : Type 0 where
+  pub b2h : c .b2h .offset % 8 ≡ 0
+  pub h2b : c .h2b .offset % 8 ≡ 0
+  pub ros : c .ros % 8 ≡ 0
+  pub rws : c .rws % 8 ≡ 0
+
 -- what makes a configuration one that a window of this size can have
 pub record Allowed (window : ℕ) (c : Configuration) : Type 0 where
   pub descriptor : 64 ≤ window
@@ -87,3 +100,4 @@ pub record Allowed (window : ℕ) (c : Configuration) : Type 0 where
   pub h2b-clear : Clear c (c .h2b)
   pub b2h-right : RingRight (c .b2h)
   pub h2b-right : RingRight (c .h2b)
+  pub units : OnUnits c

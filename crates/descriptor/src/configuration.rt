@@ -3,7 +3,7 @@ use crate::place::Place;
 use crate::place::are_apart;
 use crate::place::lies_in;
 ghost use mathlib.Core.Path.{_≡_};
-ghost use Rattle.descriptor.specs.Configuration.{structureAt, descriptorPlace, partPlace, ringRight, inside, clear, allowed};
+ghost use Rattle.descriptor.specs.Configuration.{structureAt, descriptorPlace, partPlace, ringRight, inside, clear, onUnits, allowed};
 
 // B2H and H2B are the rings from the controller to the host and back; `ros` and `rws` are the offsets of Host_ROS and
 // Host_RWS.
@@ -73,6 +73,13 @@ fn is_clear(c: Configuration, ring: Place) -> bool
         & are_apart(ring, structure_at(c.rws))
 }
 
+// Whether every base is one that a descriptor can give.
+fn on_units(c: Configuration) -> bool
+    ensures { λ r. ⌜ r ≡ onUnits c ⌝ }
+{
+    (c.b2h.offset % 8 == 0) & (c.h2b.offset % 8 == 0) & (c.ros % 8 == 0) & (c.rws % 8 == 0)
+}
+
 // Whether document 01's list lets this configuration be used in a window of this size.
 pub fn is_allowed(window: usize, c: Configuration) -> bool
     ensures { λ r. ⌜ r ≡ allowed window c ⌝ }
@@ -83,4 +90,5 @@ pub fn is_allowed(window: usize, c: Configuration) -> bool
         & is_clear(c, c.h2b)
         & ring_right(c.b2h)
         & ring_right(c.h2b)
+        & on_units(c)
 }

@@ -23,10 +23,15 @@ ring-right-requires c κs = search needs
 ring-right-requires-2 : tie.Need-ring-right-requires-2
 ring-right-requires-2 c κs = search needs
 
+on-units-requires : tie.Need-on-units-requires
+on-units-requires c κs = search needs
+
 returns : tie.Need-returns
 unfolding allowed
 returns c =
-    rw (c .ring-right2 .ensures, c .before .ring-right .ensures, c .before .before .is-clear2 .ensures, c .before .before .before .is-clear .ensures, c .before .before .before .before .are-apart .ensures, c .before .before .before .before .before .is-inside .ensures)
+    let r = c .before .before in
+    let p = r .before .before in
+    rw (c .on-units .ensures, c .before .ring-right2 .ensures, r .ring-right .ensures, r .before .is-clear2 .ensures, p .is-clear .ensures, p .before .are-apart .ensures, p .before .before .is-inside .ensures)
 
 pub is-allowed-spec : {M : Type 1} → statement M
 is-allowed-spec =
@@ -38,4 +43,5 @@ is-allowed-spec =
     is-clear-requires-2
     ring-right-requires
     ring-right-requires-2
+    on-units-requires
     returns)
