@@ -4,3 +4,4 @@ pub mod Refusals
 pub mod Ignored
 pub mod Determined
 pub mod Literal
+pub mod Given
