@@ -2,3 +2,4 @@ pub mod Laid
 pub mod Words
 pub mod Choice
 pub mod Below
+pub mod Determined
