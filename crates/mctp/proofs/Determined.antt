@@ -1,0 +1,46 @@
+-- The contracts leave no choice: two results that one allows on the same input are equal.
+-- Assumes nothing.
+use mathlib.Core.Path.{_≡_}
+use mathlib.Core.Bool.{Bool}
+use Prim.Native.Nat.{ℕ}
+use contract.Lifetimes.{Lfts}
+use Rattle.octets.proofs.Choice.{determined}
+use Rattle.mctp.specs.declared.packet.Key.{Key}
+use Rattle.mctp.specs.declared.packet.Header.{Header}
+use Rattle.mctp.proofs.eid.Eid.is_null.Reads as is-null
+use Rattle.mctp.proofs.eid.Eid.is_broadcast.Reads as is-broadcast
+use Rattle.mctp.proofs.eid.Eid.is_reserved.Reads as is-reserved
+use Rattle.mctp.proofs.eid.Eid.is_endpoint.Reads as is-endpoint
+use Rattle.mctp.proofs.packet.key_of.Reads as key-of
+use Rattle.mctp.proofs.packet.header_of.Reads as header-of
+use Rattle.mctp.proofs.packet.same_key.Reads as same-key
+use Rattle.mctp.proofs.refusal.Refusal.number.Reads as number
+
+pub is-null-determined : (κs : Lfts 0) (a : _) (r q : Bool) (e f : _) → is-null.Post κs a r e → is-null.Post κs a q f → r ≡ q
+is-null-determined κs a r q e f p o = determined p o
+
+pub is-broadcast-determined : (κs : Lfts 0) (a : _) (r q : Bool) (e f : _)
+    → is-broadcast.Post κs a r e → is-broadcast.Post κs a q f → r ≡ q
+is-broadcast-determined κs a r q e f p o = determined p o
+
+pub is-reserved-determined : (κs : Lfts 0) (a : _) (r q : Bool) (e f : _)
+    → is-reserved.Post κs a r e → is-reserved.Post κs a q f → r ≡ q
+is-reserved-determined κs a r q e f p o = determined p o
+
+pub is-endpoint-determined : (κs : Lfts 0) (a : _) (r q : Bool) (e f : _)
+    → is-endpoint.Post κs a r e → is-endpoint.Post κs a q f → r ≡ q
+is-endpoint-determined κs a r q e f p o = determined p o
+
+pub key-of-determined : (κs : Lfts 1) (a : _) (r q : Key) (e f : _) → key-of.Post κs a r e → key-of.Post κs a q f → r ≡ q
+key-of-determined κs a r q e f p o = determined p o
+
+pub header-of-determined : (κs : Lfts 1) (a : _) (r q : Header) (e f : _)
+    → header-of.Post κs a r e → header-of.Post κs a q f → r ≡ q
+header-of-determined κs a r q e f p o = determined p o
+
+pub same-key-determined : (κs : Lfts 0) (a : _) (r q : Bool) (e f : _)
+    → same-key.Post κs a r e → same-key.Post κs a q f → r ≡ q
+same-key-determined κs a r q e f p o = determined p o
+
+pub number-determined : (κs : Lfts 0) (a : _) (r q : ℕ) (e f : _) → number.Post κs a r e → number.Post κs a q f → r ≡ q
+number-determined κs a r q e f p o = determined p o
