@@ -1,3 +1,4 @@
 pub mod States
 pub mod Words
 pub mod Pointers
+pub mod Determined

@@ -4,7 +4,6 @@ use mathlib.Core.Path.{_≡_, refl}
 use mathlib.Core.Bool.{Bool, true, false}
 use mathlib.Core.List.{List, [], _∷_, map}
 use Rattle.octets.specs.Choice.{pick}
-use Rattle.octets.proofs.Choice.{determined}
 use Rattle.mmbi.specs.declared.interface.Flags.{Flags}
 use Rattle.mmbi.specs.declared.interface.InterfaceState.{InterfaceState}
 use Rattle.mmbi.specs.declared.interface.InterfaceState.the-variants.{InitializationInProgress, InitializationCompleted, NormalRuntime, ResetRequestByController, ResetRequestByHost, ResetAcked, TransitioningToInitialization, TemporaryTransition, InitializationMismatch, Unexpected}
@@ -90,16 +89,3 @@ flags-0000 = refl
 pub flags-1010 : stateOf (flagsOf true false true false) ≡ NormalRuntime
 unfolding stateOf
 flags-1010 = refl
-
--- Two results that a contract allows are equal.
-pub state-determined : (f : Flags) {r s : InterfaceState} → r ≡ stateOf f → s ≡ stateOf f → r ≡ s
-state-determined f = determined
-
-pub transient-determined : (s : InterfaceState) {a b : Bool} → a ≡ isTransient s → b ≡ isTransient s → a ≡ b
-transient-determined s = determined
-
-pub may-read-determined : (s : InterfaceState) {a b : Bool} → a ≡ mayRead s → b ≡ mayRead s → a ≡ b
-may-read-determined s = determined
-
-pub may-write-determined : (s : InterfaceState) {a b : Bool} → a ≡ mayWrite s → b ≡ mayWrite s → a ≡ b
-may-write-determined s = determined

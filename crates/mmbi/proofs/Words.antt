@@ -10,7 +10,6 @@ use mathlib.Core.Logic.{by-cases}
 use borrow.Author.Tests.{eq-eqb, ne-eqb}
 use lib.Dec.{eqb}
 use Rattle.octets.specs.Choice.{pick}
-use Rattle.octets.proofs.Choice.{determined}
 use Rattle.mmbi.specs.declared.word.Word.{Word}
 use Rattle.mmbi.specs.Words.{pointerIn, highIn, lowIn, wordOf, numberOf}
 
@@ -85,10 +84,3 @@ number-below w = below (w .high) (w .low)
     below true false = omega arith
     below false true = omega arith
     below false false = omega arith
-
--- Two results that a contract allows are equal.
-pub of-number-determined : (n : ℕ) {a b : Word} → a ≡ wordOf n → b ≡ wordOf n → a ≡ b
-of-number-determined n = determined
-
-pub number-determined : (w : Word) {a b : ℕ} → a ≡ numberOf w → b ≡ numberOf w → a ≡ b
-number-determined w = determined

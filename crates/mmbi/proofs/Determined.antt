@@ -1,0 +1,37 @@
+-- The contracts leave no choice: two results that one allows on the same input are equal.
+-- Assumes nothing.
+use mathlib.Core.Path.{_≡_}
+use mathlib.Core.Bool.{Bool}
+use Prim.Native.Nat.{ℕ}
+use contract.Lifetimes.{Lfts}
+use Rattle.octets.proofs.Choice.{determined}
+use Rattle.mmbi.specs.declared.interface.InterfaceState.{InterfaceState}
+use Rattle.mmbi.specs.declared.word.Word.{Word}
+use Rattle.mmbi.proofs.interface.state.Reads as state
+use Rattle.mmbi.proofs.interface.transient.Reads as transient
+use Rattle.mmbi.proofs.interface.may_read.Reads as may-read
+use Rattle.mmbi.proofs.interface.may_write.Reads as may-write
+use Rattle.mmbi.proofs.word.Word.of_number.Reads as of-number
+use Rattle.mmbi.proofs.word.Word.number.Reads as number
+
+pub state-determined : (κs : Lfts 0) (a : _) (r q : InterfaceState) (e f : _) → state.Post κs a r e → state.Post κs a q f → r ≡ q
+state-determined κs a r q e f p o = determined p o
+
+pub transient-determined : (κs : Lfts 0) (a : _) (r q : Bool) (e f : _)
+    → transient.Post κs a r e → transient.Post κs a q f → r ≡ q
+transient-determined κs a r q e f p o = determined p o
+
+pub may-read-determined : (κs : Lfts 0) (a : _) (r q : Bool) (e f : _)
+    → may-read.Post κs a r e → may-read.Post κs a q f → r ≡ q
+may-read-determined κs a r q e f p o = determined p o
+
+pub may-write-determined : (κs : Lfts 0) (a : _) (r q : Bool) (e f : _)
+    → may-write.Post κs a r e → may-write.Post κs a q f → r ≡ q
+may-write-determined κs a r q e f p o = determined p o
+
+pub of-number-determined : (κs : Lfts 0) (a : _) (r q : Word) (e f : _)
+    → of-number.Post κs a r e → of-number.Post κs a q f → r ≡ q
+of-number-determined κs a r q e f p o = determined p o
+
+pub number-determined : (κs : Lfts 0) (a : _) (r q : ℕ) (e f : _) → number.Post κs a r e → number.Post κs a q f → r ≡ q
+number-determined κs a r q e f p o = determined p o
