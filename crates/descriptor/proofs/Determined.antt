@@ -1,22 +1,21 @@
--- Two results that a contract allows are equal, for each public call.
+-- The contracts leave no choice: two results that one allows on the same input are equal.
 -- Assumes nothing.
 use mathlib.Core.Path.{_≡_, ap}
 use mathlib.Core.Bool.{Bool}
-use mathlib.Core.List.{List}
 use Prim.Native.Nat.{ℕ}
 use native.Mathlib.Omega.{arith}
+use contract.Lifetimes.{Lfts}
 use Rattle.octets.proofs.Choice.{determined}
 use Rattle.mctp.specs.Refusals.{numberOf}
 use Rattle.mctp.proofs.Refusals.{number-injective}
 use Rattle.descriptor.specs.declared.place.Place.{Place}
-use Rattle.descriptor.specs.declared.configuration.Configuration.{Configuration}
-use Rattle.descriptor.specs.declared.configuration.Part.{Part}
 use Rattle.descriptor.specs.declared.reading.Configured.{Configured}
 use Rattle.descriptor.specs.declared.reading.Configured.the-variants.{Checked, Refused}
-use Rattle.descriptor.specs.Places.{endOf}
-use Rattle.descriptor.specs.Configuration.{partPlace, allowed}
-use Rattle.descriptor.specs.Descriptor.{outcomeOf}
 use Rattle.descriptor.specs.Answers.{says}
+use Rattle.descriptor.proofs.reading.read_descriptor.Reads as read-descriptor
+use Rattle.descriptor.proofs.configuration.is_allowed.Reads as is-allowed
+use Rattle.descriptor.proofs.configuration.part_place.Reads as part-place
+use Rattle.descriptor.proofs.place.end.Reads as end
 
 -- two answers that say the same are one answer
 pub says-injective : (a b : Configured) → says a ≡ says b → a ≡ b
@@ -25,14 +24,17 @@ says-injective (Checked c) (Refused r) e = let no : _≡_ {A = ℕ} 0 1 = cc in 
 says-injective (Refused r) (Checked d) e = let no : _≡_ {A = ℕ} 0 1 = cc in absurd (omega arith)
 says-injective (Refused r) (Refused t) e = let same : numberOf r ≡ numberOf t = cc in ap Refused (number-injective r t same)
 
-pub read-descriptor-determined : (s : List ℕ) (a b : Configured) → says a ≡ outcomeOf s → says b ≡ outcomeOf s → a ≡ b
-read-descriptor-determined s a b p q = says-injective a b (determined p q)
+pub read-descriptor-determined : (κs : Lfts 1) (a : _) (r q : Configured) (e f : _)
+    → read-descriptor.Post κs a r e → read-descriptor.Post κs a q f → r ≡ q
+read-descriptor-determined κs a r q e f p o = says-injective r q (determined p o)
 
-pub is-allowed-determined : (window : ℕ) (c : Configuration) {a b : Bool} → a ≡ allowed window c → b ≡ allowed window c → a ≡ b
-is-allowed-determined window c = determined
+pub is-allowed-determined : (κs : Lfts 0) (a : _) (r q : Bool) (e f : _)
+    → is-allowed.Post κs a r e → is-allowed.Post κs a q f → r ≡ q
+is-allowed-determined κs a r q e f p o = determined p o
 
-pub part-place-determined : (c : Configuration) (part : Part) {a b : Place} → a ≡ partPlace c part → b ≡ partPlace c part → a ≡ b
-part-place-determined c part = determined
+pub part-place-determined : (κs : Lfts 0) (a : _) (r q : Place) (e f : _)
+    → part-place.Post κs a r e → part-place.Post κs a q f → r ≡ q
+part-place-determined κs a r q e f p o = determined p o
 
-pub end-determined : (p : Place) {a b : ℕ} → a ≡ endOf p → b ≡ endOf p → a ≡ b
-end-determined p = determined
+pub end-determined : (κs : Lfts 0) (a : _) (r q : ℕ) (e f : _) → end.Post κs a r e → end.Post κs a q f → r ≡ q
+end-determined κs a r q e f p o = determined p o
