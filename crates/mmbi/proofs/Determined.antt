@@ -11,6 +11,7 @@ use Rattle.mmbi.proofs.interface.state.Reads as state
 use Rattle.mmbi.proofs.interface.transient.Reads as transient
 use Rattle.mmbi.proofs.interface.may_read.Reads as may-read
 use Rattle.mmbi.proofs.interface.may_write.Reads as may-write
+use Rattle.mmbi.proofs.pointer.pointer_right.Reads as pointer-right
 use Rattle.mmbi.proofs.word.Word.of_number.Reads as of-number
 use Rattle.mmbi.proofs.word.Word.number.Reads as number
 
@@ -35,3 +36,7 @@ of-number-determined κs a r q e f p o = determined p o
 
 pub number-determined : (κs : Lfts 0) (a : _) (r q : ℕ) (e f : _) → number.Post κs a r e → number.Post κs a q f → r ≡ q
 number-determined κs a r q e f p o = determined p o
+
+pub pointer-right-determined : (κs : Lfts 0) (a : _) (r q : Bool) (e f : _)
+    → pointer-right.Post κs a r e → pointer-right.Post κs a q f → r ≡ q
+pointer-right-determined κs a r q e f p o = determined p o

@@ -4,3 +4,4 @@ pub mod Stores
 pub mod Determined
 pub mod Literal
 pub mod Looks
+pub mod PutBack

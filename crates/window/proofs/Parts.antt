@@ -19,7 +19,7 @@ use Rattle.descriptor.proofs.Configurations.{allowed-facts}
 use Rattle.descriptor.proofs.Refusals.{found-allowed}
 
 -- every part of an allowed configuration lies in the window
-part-fits : (window : ℕ) (c : Configuration) (part : Part) → Allowed window c → endOf (partPlace c part) ≤ window
+pub part-fits : (window : ℕ) (c : Configuration) (part : Part) → Allowed window c → endOf (partPlace c part) ≤ window
 part-fits window c B2h a = a .b2h
 part-fits window c H2b a = a .h2b
 part-fits window c Ros a = a .ros

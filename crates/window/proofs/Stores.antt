@@ -148,13 +148,13 @@ store-keeps-others s c p w q h =
       rw (stored-length s c p w, same))
 
 -- a ring is clear of both structures
-ring-clear : (window : ℕ) (c : Configuration) (ring : Part) → isRing ring ≡ true → Allowed window c → Clear c (partPlace c ring)
+pub ring-clear : (window : ℕ) (c : Configuration) (ring : Part) → isRing ring ≡ true → Allowed window c → Clear c (partPlace c ring)
 ring-clear window c B2h r a = a .b2h-clear
 ring-clear window c H2b r a = a .h2b-clear
 ring-clear window c Ros r a = absurd (false≢true r)
 ring-clear window c Rws r a = absurd (false≢true r)
 
-beside : (c : Configuration) (p : Pointer) (ring : Part) → Clear c (partPlace c ring)
+pub beside : (c : Configuration) (p : Pointer) (ring : Part) → Clear c (partPlace c ring)
     → (wordPlace c p + 4 ≤ partPlace c ring .offset) ⊎ (partPlace c ring .offset + partPlace c ring .length ≤ wordPlace c p)
 beside c H2bWrite ring k = ⊎-elim (λ (h : _). inr h) (λ (h : _). inl (omega arith)) (k .rws)
 beside c B2hRead ring k = ⊎-elim (λ (h : _). inr (omega arith)) (λ (h : _). inl (omega arith)) (k .rws)

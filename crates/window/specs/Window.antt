@@ -37,6 +37,10 @@ bytesAt s p = take (p .length) (drop (p .offset) s)
 unfoldable pub partOf : List ℕ → Configuration → Part → List ℕ
 partOf s c part = bytesAt s (placeIn (length s) c part)
 
+-- the window once a part that was lent out of it is back with these bytes
+abbrev pub putBack : List ℕ → Configuration → Part → List ℕ → List ℕ
+putBack s c part bytes = laid s (partPlace c part .offset) bytes
+
 -- Table 3: "0:3 .. H2B_WP", "4:7 .. B2H_RP" of Host_RWS; Table 4: "0:3 .. B2H_WP", "4:7 .. H2B_RP" of Host_ROS
 abbrev pub wordPlace : Configuration → Pointer → ℕ
 wordPlace c H2bWrite = c .rws

@@ -1,0 +1,90 @@
+-- A ring lent out of a window comes back with other bytes, as many: descriptor, words and the other ring stay.
+-- Assumes nothing.
+use mathlib.Core.Path.{_≡_, refl, sym, ap, _∙_}
+use mathlib.Core.Bool.{true, false≢true}
+use mathlib.Core.List.{List, _++_}
+use mathlib.Core.Logic.{_⊎_, inl, inr, ⊎-elim}
+use Prim.Native.Nat.{ℕ, _+_, _≤_}
+use native.Mathlib.Omega.{arith}
+use lib.ListN.{length, take, drop}
+use lib.Seq.{length-take-le, take-at, drop-at}
+use Rattle.octets.specs.Words.{highFirst, wordAt}
+use Rattle.octets.proofs.Laid.{laid-fits, laid-length}
+use Rattle.descriptor.specs.declared.configuration.Configuration.{Configuration}
+use Rattle.descriptor.specs.declared.configuration.Part.{Part}
+use Rattle.descriptor.specs.declared.configuration.Part.the-variants.{B2h, H2b, Ros, Rws}
+use Rattle.descriptor.specs.Places.{Apart}
+use Rattle.descriptor.specs.Configuration.{partPlace, isRing, allowed, Allowed, Clear, RingRight}
+use Rattle.descriptor.proofs.Configurations.{allowed-facts}
+use Rattle.window.specs.declared.word.Pointer.{Pointer}
+use Rattle.window.specs.declared.word.Pointer.the-variants.{H2bWrite, B2hRead, B2hWrite, H2bRead}
+use Rattle.window.specs.Window.{placeIn, bytesAt, partOf, putBack, wordPlace, wordIn, interfaceIn}
+use Rattle.window.proofs.LaidWords.{laid-beside, laid-word-beside}
+use Rattle.window.proofs.Parts.{part-fits, ring-right}
+use Rattle.window.proofs.Stores.{ring-clear, beside}
+
+-- the two rings are apart, whichever is named first
+rings-apart : (window : ℕ) (c : Configuration) (ring other : Part) → isRing ring ≡ true → isRing other ≡ true
+    → (other ≡ ring → ⊥) → Allowed window c → Apart (partPlace c ring) (partPlace c other)
+rings-apart window c B2h B2h r o e a = absurd (e refl)
+rings-apart window c B2h H2b r o e a = a .rings
+rings-apart window c B2h Ros r o e a = absurd (false≢true o)
+rings-apart window c B2h Rws r o e a = absurd (false≢true o)
+rings-apart window c H2b B2h r o e a = ⊎-elim (λ (h : _). inr h) (λ (h : _). inl h) (a .rings)
+rings-apart window c H2b H2b r o e a = absurd (e refl)
+rings-apart window c H2b Ros r o e a = absurd (false≢true o)
+rings-apart window c H2b Rws r o e a = absurd (false≢true o)
+rings-apart window c Ros other r o e a = absurd (false≢true r)
+rings-apart window c Rws other r o e a = absurd (false≢true r)
+
+module _ (s : List ℕ) (c : Configuration) (ring : Part) (bytes : List ℕ) (is : isRing ring ≡ true)
+  (ok : allowed (length s) c ≡ true) (fits : length bytes ≡ partPlace c ring .length) where
+  facts : Allowed (length s) c
+  facts = allowed-facts (length s) c ok
+
+  kept-length : length (putBack s c ring bytes) ≡ length s
+  kept-length = laid-length s (partPlace c ring .offset) bytes
+
+  -- the descriptor
+  pub descriptor-stays : take 64 (putBack s c ring bytes) ≡ take 64 s
+  descriptor-stays =
+      let right : RingRight (partPlace c ring) = ring-right (length s) c ring is facts in
+      laid-beside s (partPlace c ring .offset) bytes 0 64
+      (⊎-elim (λ (h : _). absurd (omega (arith, right .least))) (λ (h : _). inr h) (ring-clear (length s) c ring is facts .descriptor))
+
+  word-stays : (p : Pointer) → wordIn (putBack s c ring bytes) c p ≡ wordIn s c p
+  unfolding wordIn
+  word-stays p =
+      let place = partPlace c ring .offset in
+      let apart : (place + length bytes ≤ wordPlace c p) ⊎ (wordPlace c p + 4 ≤ place) =
+      ⊎-elim (λ (h : _). inr h) (λ (h : _). inl (omega (arith, fits))) (beside c p ring (ring-clear (length s) c ring is facts)) in
+      rw (kept-length, laid-word-beside highFirst s place bytes (wordPlace c p) apart)
+
+  -- all four words
+  pub words-stay : interfaceIn (putBack s c ring bytes) c ≡ interfaceIn s c
+  unfolding interfaceIn
+  words-stay = rw (word-stays H2bWrite, word-stays B2hRead, word-stays B2hWrite, word-stays H2bRead)
+
+  -- the other ring
+  pub other-ring-stays : (other : Part) → isRing other ≡ true → (other ≡ ring → ⊥)
+      → partOf (putBack s c ring bytes) c other ≡ partOf s c other
+  unfolding partOf placeIn
+  other-ring-stays other o e =
+      let q = partPlace c other in
+      let apart = rings-apart (length s) c ring other is o e facts in
+      rw (kept-length, ok)
+      (laid-beside s (partPlace c ring .offset) bytes (q .offset) (q .length)
+      (⊎-elim (λ (h : _). inl (omega (arith, fits))) (λ (h : _). inr h) apart))
+
+  -- and the ring itself has the bytes that came back
+  pub ring-is-back : partOf (putBack s c ring bytes) c ring ≡ bytes
+  unfolding partOf placeIn
+  ring-is-back =
+      let at = partPlace c ring .offset in
+      let n = partPlace c ring .length in
+      let all = part-fits (length s) c ring facts in
+      let rest = drop (at + length bytes) s in
+      rw (kept-length, ok)
+      (ap (λ (l : List ℕ). take n (drop at l)) (laid-fits s at bytes (omega (arith, all, fits)))
+      ∙ ap (take n) (drop-at (take at s) (bytes ++ rest) at (length-take-le at s (omega (arith, all))))
+      ∙ take-at bytes rest n fits)
