@@ -5,8 +5,8 @@ use mathlib.Core.List.{List, [], _∷_, _++_}
 use Prim.Native.Nat.{ℕ, _+_, _*_, _/_, _%_, _^_, _≤_, _<_}
 use native.Mathlib.Nat.{add-assoc, add-zero, mul-zero, mod-eq-of-lt, mod-add-div, div-div-eq-div-mul}
 use native.Mathlib.Omega.{arith}
-use lib.ListN.{length, getD, List·getD-eq-default}
-use lib.Seq.{getD-append-add}
+use lib.ListN.{length, getD, take, drop, length-drop, List·getD-eq-default}
+use lib.Seq.{getD-append-add, getD-drop}
 use Rattle.octets.specs.Bytes.{Below}
 use Rattle.octets.specs.Words.{Order, lowFirst, highFirst, value, wordAt, wordBytes}
 
@@ -49,3 +49,36 @@ pub word-below : (o : Order) (s : List ℕ) (at : ℕ) → Below 256 s → wordA
 unfolding wordAt
 word-below lowFirst s at b = omega (arith, b at, b (at + 1), b (at + 2), b (at + 3))
 word-below highFirst s at b = omega (arith, b at, b (at + 1), b (at + 2), b (at + 3))
+
+-- a list's first four places
+pub four : (s : List ℕ) → 4 ≤ length s → take 4 s ≡ getD s 0 0 ∷ getD s 1 0 ∷ getD s 2 0 ∷ getD s 3 0 ∷ []
+four [] h = absurd (omega arith)
+four (a ∷ []) h = absurd (omega arith)
+four (a ∷ b ∷ []) h = absurd (omega arith)
+four (a ∷ b ∷ c ∷ []) h = absurd (omega arith)
+four (a ∷ b ∷ c ∷ d ∷ s) h = refl
+
+-- and the four places from `at` on
+standing : (s : List ℕ) (at : ℕ) → at + 4 ≤ length s
+    → take 4 (drop at s) ≡ getD s at 0 ∷ getD s (at + 1) 0 ∷ getD s (at + 2) 0 ∷ getD s (at + 3) 0 ∷ []
+standing s at h =
+    let first : getD (drop at s) 0 0 ≡ getD s at 0 = getD-drop at s 0 0 ∙ ap (λ (k : ℕ). getD s k 0) (add-zero at) in
+    let rest : (k : ℕ) → getD (drop at s) k 0 ≡ getD s (at + k) 0 = λ (k : ℕ). getD-drop at s k 0 in
+    four (drop at s) (rw length-drop (omega arith)) ∙ (λ i. first i ∷ rest 1 i ∷ rest 2 i ∷ rest 3 i ∷ [])
+
+-- four digits to the base 256 are those of their number
+digits : (a b c d : ℕ) → a < 256 → b < 256 → c < 256 → d < 256
+    → (w : ℕ) → w ≡ value (a ∷ b ∷ c ∷ d ∷ [])
+    → (w % 256 ≡ a) × (w / 256 % 256 ≡ b) × (w / 65536 % 256 ≡ c) × (w / 16777216 % 256 ≡ d)
+digits a b c d ha hb hc hd w e = (omega arith, omega arith, omega arith, omega arith)
+
+-- four bytes are the bytes of the word that they make
+pub bytes-back : (o : Order) (s : List ℕ) (at : ℕ) → Below 256 s → at + 4 ≤ length s
+    → take 4 (drop at s) ≡ wordBytes o (wordAt o s at)
+unfolding wordAt wordBytes
+bytes-back lowFirst s at b h =
+    let d = digits _ _ _ _ (b at) (b (at + 1)) (b (at + 2)) (b (at + 3)) _ refl in
+    standing s at h ∙ sym (λ i. d .0 i ∷ d .1 i ∷ d .2 i ∷ d .3 i ∷ [])
+bytes-back highFirst s at b h =
+    let d = digits _ _ _ _ (b (at + 3)) (b (at + 2)) (b (at + 1)) (b at) _ refl in
+    standing s at h ∙ sym (λ i. d .3 i ∷ d .2 i ∷ d .1 i ∷ d .0 i ∷ [])

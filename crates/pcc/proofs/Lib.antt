@@ -7,3 +7,4 @@ pub mod Ignored
 pub mod Determined
 pub mod Literal
 pub mod Bytes
+pub mod Made

@@ -23,14 +23,18 @@ lengthOf size = 4 + size
 abbrev pub command : ℕ
 command = 0x5054_434D
 
--- the front of a region: the four words, and "the packet starts at 16"
-unfoldable pub regionOf : ℕ → Bool → List ℕ → List ℕ
-regionOf id notify packet =
+-- the front of a region with these flags: the four words, and "the packet starts at 16"
+abbrev pub regionWith : ℕ → ℕ → List ℕ → List ℕ
+regionWith id flags packet =
     wordBytes lowFirst (signatureOf id)
-    ++ (wordBytes lowFirst (flagsOf notify)
+    ++ (wordBytes lowFirst flags
     ++ (wordBytes lowFirst (lengthOf (length packet))
     ++ (wordBytes lowFirst command
     ++ packet)))
+
+-- as it is written
+unfoldable pub regionOf : ℕ → Bool → List ℕ → List ℕ
+regionOf id notify packet = regionWith id (flagsOf notify) packet
 
 -- "A region has at least 84 bytes", and more for a packet that is longer than 68
 abbrev pub roomFor : ℕ → ℕ

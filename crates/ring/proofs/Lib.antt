@@ -10,3 +10,4 @@ pub mod Fifo
 pub mod Ignored
 pub mod Literal
 pub mod Determined
+pub mod Made

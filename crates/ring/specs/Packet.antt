@@ -52,3 +52,7 @@ headerFor n = (wholeFor n / 4 - 1) * 1024 + paddingFor n * 256 + mctpType
 -- "the header of Table 6 of 003, with MCTP's type, then the MCTP packet, then padding to a multiple of 4, zero when written"
 unfoldable pub ringBytes : List ℕ → List ℕ
 ringBytes packet = wordBytes highFirst (headerFor (length packet)) ++ (packet ++ replicate (paddingFor (length packet)) 0)
+
+-- as any maker may write it: "[7:4] – Reserved" of byte 3, and padding of any bytes
+abbrev pub ringWith : ℕ → List ℕ → List ℕ → List ℕ
+ringWith reserved packet padding = wordBytes highFirst (headerFor (length packet) + 16 * reserved) ++ (packet ++ padding)

@@ -1,21 +1,15 @@
 -- What is good is what the layout makes: a good frame is the frame of its own packet, and that packet has a packet's size.
 -- Assumes nothing.
-use mathlib.Core.Path.{_≡_, refl, sym, ap, _∙_}
+use mathlib.Core.Path.{_≡_, sym, ap, _∙_}
 use mathlib.Core.List.{List, [], _∷_, _++_}
 use Prim.Native.Nat.{ℕ, suc, _+_, _-_, _*_, _/_, _≤_}
 use native.Mathlib.Omega.{arith}
 use lib.ListN.{length, getD, take, length-take, length-drop}
 use lib.Seq.{take-add, take-suc, take-all}
+use Rattle.octets.proofs.Words.{four}
 use Rattle.pec.specs.Remainder.{pecOf}
 use Rattle.smbus.specs.Frame.{headOf, coveredOf, frameOf}
 use Rattle.smbus.specs.Reading.{endOf, beforeEnd, partOf, Good}
-
-four : (s : List ℕ) → 4 ≤ length s → take 4 s ≡ getD s 0 0 ∷ getD s 1 0 ∷ getD s 2 0 ∷ getD s 3 0 ∷ []
-four [] h = absurd (omega arith)
-four (a ∷ []) h = absurd (omega arith)
-four (a ∷ b ∷ []) h = absurd (omega arith)
-four (a ∷ b ∷ c ∷ []) h = absurd (omega arith)
-four (a ∷ b ∷ c ∷ d ∷ s) h = refl
 
 -- What a good frame gives.
 module _ (most : ℕ) (frame : List ℕ) (own : ℕ) (g : Good most frame own) where
