@@ -3,3 +3,4 @@ pub mod Words
 pub mod Choice
 pub mod Below
 pub mod Determined
+pub mod Literal
