@@ -1,3 +1,4 @@
 pub mod Keys
 pub mod Refusals
 pub mod Determined
+pub mod Literal
