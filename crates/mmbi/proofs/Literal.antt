@@ -1,0 +1,68 @@
+-- Words and flag states written out from Tables 3 to 5 of 003, none alike at both ends, since a definition and its code
+-- could be wrong alike.
+-- Assumes nothing.
+use mathlib.Core.Path.{_≡_, refl}
+use mathlib.Core.Bool.{Bool, true, false}
+use mathlib.Core.List.{List, [], _∷_, map}
+use Prim.Native.Nat.{ℕ}
+use Rattle.mmbi.specs.declared.interface.Flags.{Flags}
+use Rattle.mmbi.specs.declared.interface.InterfaceState.the-variants.{InitializationCompleted, ResetRequestByController, ResetRequestByHost, TransitioningToInitialization, TemporaryTransition, InitializationMismatch, Unexpected}
+use Rattle.mmbi.specs.declared.word.Word.{Word}
+use Rattle.mmbi.specs.Interface.{stateOf}
+use Rattle.mmbi.specs.Words.{wordOf, numberOf}
+
+-- the words: bit 0 alone, bit 1 alone, four bytes that differ, every bit but bit 1, every bit of 16 but bit 0
+abbrev numbers : List ℕ
+numbers = 1 ∷ 2 ∷ 0x01020304 ∷ 0xFFFFFFFD ∷ 0xFFFE ∷ []
+
+abbrev read : List Word
+read =
+    record { pointer = 0; high = false; low = true }
+    ∷ record { pointer = 0; high = true; low = false }
+    ∷ record { pointer = 16909060; high = false; low = false }
+    ∷ record { pointer = 4294967292; high = false; low = true }
+    ∷ record { pointer = 65532; high = true; low = false }
+    ∷ []
+
+pub words-read : map wordOf numbers ≡ read
+unfolding wordOf
+words-read = refl
+
+pub words-written : map numberOf read ≡ numbers
+unfolding numberOf
+words-written = refl
+
+-- what has no place in the word: bits 1 and 0 of a pointer, and its bits from 32 on
+pub pointer-cut : numberOf (record { pointer = 0x10000000B; high = false; low = true }) ≡ 9
+unfolding numberOf
+pointer-cut = refl
+
+-- Table 5 by the flags' own names
+abbrev ends : Bool → Bool → Bool → Bool → Flags
+ends bUp bRst hUp hRst =
+    record { «controller_up» = bUp; «controller_reset» = bRst; «host_up» = hUp; «host_reset» = hRst }
+
+-- every row whose state is another one with the two ends exchanged, and after it that other one: 1000 and 0010, 1110
+-- and 1011, 1001 and 0110, 0111 and 1101
+pub ends-apart :
+    map stateOf
+    (ends true false false false
+    ∷ ends false false true false
+    ∷ ends true true true false
+    ∷ ends true false true true
+    ∷ ends true false false true
+    ∷ ends false true true false
+    ∷ ends false true true true
+    ∷ ends true true false true
+    ∷ [])
+    ≡ InitializationCompleted
+    ∷ Unexpected
+    ∷ ResetRequestByController
+    ∷ ResetRequestByHost
+    ∷ InitializationMismatch
+    ∷ TemporaryTransition
+    ∷ TransitioningToInitialization
+    ∷ Unexpected
+    ∷ []
+unfolding stateOf
+ends-apart = refl
