@@ -4,4 +4,5 @@ pub mod Refusals
 pub mod Ignored
 pub mod Determined
 pub mod Literal
+pub mod Borders
 pub mod Given

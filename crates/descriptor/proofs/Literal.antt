@@ -10,7 +10,7 @@ use Rattle.octets.specs.Words.{wordAt}
 use Rattle.descriptor.specs.declared.configuration.Configuration.{Configuration}
 use Rattle.descriptor.specs.Places.{endOf, liesIn}
 use Rattle.descriptor.specs.Configuration.{structureAt, inside, clear, ringRight, allowed}
-use Rattle.descriptor.specs.Descriptor.{signatureRight, configurationIn, refusalOf, found, outcomeOf}
+use Rattle.descriptor.specs.Descriptor.{signatureRight, configurationIn, refusalOf, found, refused, outcomeOf}
 
 -- The descriptor: `#MMBI$`, version 1, for OS use; B2H at 8 · 0x0A = 80 with 128 bytes, H2B at 8 · 0x1A = 208 with
 -- 132 bytes; type 1; Host_ROS at 8 · 8 = 64, Host_RWS at 8 · 9 = 72
@@ -53,3 +53,78 @@ far-passes = lit≤ tt
 -- a structure of 8 bytes there ends with a window of 4 GiB, and so lies in it
 pub far-structure : liesIn (2 ^ 32) (structureAt 4294967288) ≡ true
 far-structure = refl
+
+-- Another, with no two alike and every reserved bit set: version byte F1, byte 7 FE, bases with their high three bits
+-- set, type byte A1, FF in bytes 25 to 31 and from 40 on. B2H at 8 · 0x102 = 2,064 with the length whose four bytes are
+-- given, H2B at 8 · 0x41 = 520 with 0x508 = 1,288 bytes, Host_ROS right behind it at 8 · 0xE2 = 1,808, Host_RWS right
+-- before B2H at 8 · 0x101 = 2,056.
+abbrev lengthened : ℕ → ℕ → ℕ → ℕ → List ℕ
+lengthened a b c d =
+    35 ∷ 77 ∷ 77 ∷ 66 ∷ 73 ∷ 36 ∷ 0xF1 ∷ 0xFE
+    ∷ 0xE0 ∷ 0 ∷ 1 ∷ 2 ∷ 0xA0 ∷ 0 ∷ 0 ∷ 0x41
+    ∷ a ∷ b ∷ c ∷ d ∷ 0 ∷ 0 ∷ 5 ∷ 8
+    ∷ 0xA1 ∷ 255 ∷ 255 ∷ 255 ∷ 255 ∷ 255 ∷ 255 ∷ 255
+    ∷ 0x80 ∷ 0 ∷ 0 ∷ 0xE2 ∷ 0x60 ∷ 0 ∷ 1 ∷ 1
+    ∷ replicate 24 255
+
+abbrev given : ℕ → Configuration
+given n = record { b2h = record { offset = 2064; length = n }; h2b = record { offset = 520; length = 1288 }; ros = 1808; rws = 2056 }
+
+-- a window of 2,324 bytes, which a ring of 260 (00 00 01 04) ends
+pub reserved-set : outcomeOf (lengthened 0 0 1 4 ++ replicate 2260 0) ≡ found (given 260)
+unfolding outcomeOf refusalOf signatureRight configurationIn allowed inside clear ringRight wordAt
+reserved-set = refl
+
+pub one-byte-short : outcomeOf (lengthened 0 0 1 4 ++ replicate 2259 0) ≡ refused 10
+unfolding outcomeOf refusalOf signatureRight configurationIn allowed inside clear ringRight wordAt
+one-byte-short = refl
+
+-- lengths at the borders, each in a window that holds such a ring: 128 (00 00 00 80) is the least, 65,536 (00 01 00 00)
+-- the most
+pub length-128 : outcomeOf (lengthened 0 0 0 128 ++ replicate 2128 0) ≡ found (given 128)
+unfolding outcomeOf refusalOf signatureRight configurationIn allowed inside clear ringRight wordAt
+length-128 = refl
+
+pub length-65536 : outcomeOf (lengthened 0 1 0 0 ++ replicate 67536 0) ≡ found (given 65536)
+unfolding outcomeOf refusalOf signatureRight configurationIn allowed inside clear ringRight wordAt
+length-65536 = refl
+
+pub length-124 : outcomeOf (lengthened 0 0 0 124 ++ replicate 2128 0) ≡ refused 10
+unfolding outcomeOf refusalOf signatureRight configurationIn allowed inside clear ringRight wordAt
+length-124 = refl
+
+pub length-126 : outcomeOf (lengthened 0 0 0 126 ++ replicate 2128 0) ≡ refused 10
+unfolding outcomeOf refusalOf signatureRight configurationIn allowed inside clear ringRight wordAt
+length-126 = refl
+
+-- no multiple of 4
+pub length-130 : outcomeOf (lengthened 0 0 0 130 ++ replicate 2130 0) ≡ refused 10
+unfolding outcomeOf refusalOf signatureRight configurationIn allowed inside clear ringRight wordAt
+length-130 = refl
+
+pub length-65540 : outcomeOf (lengthened 0 1 0 4 ++ replicate 67540 0) ≡ refused 10
+unfolding outcomeOf refusalOf signatureRight configurationIn allowed inside clear ringRight wordAt
+length-65540 = refl
+
+-- 131,200 (00 02 00 80) is not 128
+pub length-131200 : outcomeOf (lengthened 0 2 0 128 ++ replicate 133200 0) ≡ refused 10
+unfolding outcomeOf refusalOf signatureRight configurationIn allowed inside clear ringRight wordAt
+length-131200 = refl
+
+-- All four bytes of each field, by the bytes' numbers but for the high three bits of a base: 8 · 0x1F020304,
+-- 8 · 0x05060708, 0x090A0B0C, 0x0D0E0F10, 8 · 0x11121314, 8 · 0x15161718.
+pub fields :
+    configurationIn
+    (replicate 8 0
+    ++ (0xFF ∷ 2 ∷ 3 ∷ 4 ∷ 0xE5 ∷ 6 ∷ 7 ∷ 8
+    ∷ 9 ∷ 10 ∷ 11 ∷ 12 ∷ 13 ∷ 14 ∷ 15 ∷ 16
+    ∷ replicate 8 0)
+    ++ (0x31 ∷ 0x12 ∷ 0x13 ∷ 0x14 ∷ 0x55 ∷ 0x16 ∷ 0x17 ∷ 0x18 ∷ []))
+    ≡ record {
+      b2h = record { offset = 4161804320; length = 151653132 };
+      h2b = record { offset = 674248768; length = 219025168 };
+      ros = 2291177632;
+      rws = 2830153920;
+    }
+unfolding configurationIn wordAt
+fields = refl
