@@ -1,26 +1,19 @@
--- Set-up gives a right state, a slot freed leaves one, nothing else changes, and each answer is the only one allowed.
+-- Set-up gives a right state, a slot freed leaves one, and nothing else changes.
 -- Assumes nothing.
-use mathlib.Core.Path.{_≡_, refl, ap, sym, _∙_}
+use mathlib.Core.Path.{_≡_, refl}
 use mathlib.Core.Bool.{Bool, true, false, _&&_}
 use Prim.Native.Nat.{ℕ, _≤_, _<_}
-use native.Mathlib.Omega.{arith}
 use borrow.Author.Tests.{ltb-true, lt-ltb, le-ltb}
 use lib.Dec.{ltb}
 use Rattle.octets.specs.Choice.{pick}
 use Rattle.octets.proofs.Choice.{both}
-use Rattle.mctp.specs.declared.refusal.Refusal.{Refusal}
 use Rattle.mctp.specs.Packet.{mostRight}
-use Rattle.mctp.specs.Refusals.{numberOf}
-use Rattle.mctp.proofs.Refusals.{number-injective, number-positive}
 use Rattle.slots.specs.declared.state.Setup.{Setup}
 use Rattle.slots.specs.declared.state.SlotState.the-variants.{Free}
 use Rattle.slots.specs.declared.state.Receiver.{Receiver}
-use Rattle.slots.specs.declared.change.Outcome.{Outcome}
-use Rattle.slots.specs.declared.change.Outcome.the-variants.{Good, Refused}
-use Rattle.slots.specs.declared.change.Changed.{Changed}
 use Rattle.slots.specs.Setup.{rightSetup}
 use Rattle.slots.specs.State.{rightSlot, clash, rightState}
-use Rattle.slots.specs.Changes.{Kept, outcomeNumber, keeps, fresh, withState, setUpOf, freedOf}
+use Rattle.slots.specs.Changes.{Kept, fresh, withState, setUpOf, freedOf}
 use Rattle.slots.proofs.States.{right-of, right-holds, with-right}
 
 -- a fresh receiver's state is right
@@ -68,24 +61,3 @@ freed-past most r i h = by-state (rightState most r)
 pub freed-wrong : (most : ℕ) (r : Receiver) (i : ℕ) → rightState most r ≡ false → freedOf most r i ≡ record { number = 1; receiver = r }
 unfolding freedOf
 freed-wrong most r i e = rw e
-
--- an outcome is told by its number
-outcome-injective : (a b : Outcome) → outcomeNumber a ≡ outcomeNumber b → a ≡ b
-outcome-injective Good Good e = refl
-outcome-injective Good (Refused s) e = absurd (no s e)
-  where
-    no : (s : Refusal) → 0 ≡ numberOf s → ⊥
-    no s e = omega (arith, number-positive s)
-outcome-injective (Refused r) Good e = absurd (no r e)
-  where
-    no : (s : Refusal) → numberOf s ≡ 0 → ⊥
-    no s e = omega (arith, number-positive s)
-outcome-injective (Refused r) (Refused s) e = ap Refused (number-injective r s e)
-
--- two results that the contracts of `set_up` and `free` allow are equal
-pub changed-determined : (a b : Changed) (k : Kept) → keeps a ≡ k → keeps b ≡ k → a ≡ b
-changed-determined a b k p q =
-    let e = p ∙ sym q in
-    let outcome = outcome-injective (a .outcome) (b .outcome) (ap (λ (x : Kept). x .number) e) in
-    let receiver = ap (λ (x : Kept). x .receiver) e in
-    λ i. record { outcome = outcome i; receiver = receiver i }

@@ -2,3 +2,4 @@ pub mod States
 pub mod Found
 pub mod Numbers
 pub mod Kept
+pub mod Determined

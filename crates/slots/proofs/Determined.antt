@@ -1,0 +1,59 @@
+-- The contracts of the public calls leave no choice: two results that one allows on the same input are equal.
+-- Assumes nothing.
+use mathlib.Core.Path.{_≡_, refl, ap}
+use native.Mathlib.Omega.{arith}
+use contract.Lifetimes.{Lfts}
+use Rattle.octets.proofs.Choice.{determined}
+use Rattle.mctp.proofs.Refusals.{number-injective, number-positive}
+use Rattle.slots.specs.declared.change.Outcome.{Outcome}
+use Rattle.slots.specs.declared.change.Outcome.the-variants.{Good, Refused}
+use Rattle.slots.specs.declared.change.Changed.{Changed}
+use Rattle.slots.specs.Changes.{Kept, outcomeNumber, keeps}
+use Rattle.slots.proofs.change.set_up.Reads as set-up
+use Rattle.slots.proofs.change.free.Reads as free
+use Rattle.slots.proofs.change.with_state.Reads as with-state
+use Rattle.slots.proofs.check.ours.Reads as ours
+use Rattle.slots.proofs.check.right.Reads as right
+use Rattle.slots.proofs.check.right_within.Reads as within
+use Rattle.slots.proofs.find.slot_of.Reads as slot-of
+use Rattle.slots.proofs.find.lowest_free.Reads as lowest-free
+use Rattle.slots.proofs.find.state_at.Reads as state-at
+
+-- an outcome is told by its number
+outcome-injective : (a b : Outcome) → outcomeNumber a ≡ outcomeNumber b → a ≡ b
+outcome-injective Good Good e = refl
+outcome-injective Good (Refused s) e = absurd (omega (arith, number-positive s))
+outcome-injective (Refused r) Good e = absurd (omega (arith, number-positive r))
+outcome-injective (Refused r) (Refused s) e = ap Refused (number-injective r s e)
+
+keeps-injective : (a b : Changed) → keeps a ≡ keeps b → a ≡ b
+keeps-injective a b e =
+    let outcome = outcome-injective (a .outcome) (b .outcome) (ap (λ (k : Kept). k .number) e) in
+    λ i. record { outcome = outcome i; receiver = e i .receiver }
+
+pub set-up-determined : (κs : Lfts 0) (a r q e f : _) → set-up.Post κs a r e → set-up.Post κs a q f → r ≡ q
+set-up-determined κs a r q e f p o = keeps-injective r q (determined p o)
+
+pub free-determined : (κs : Lfts 0) (a r q e f : _) → free.Post κs a r e → free.Post κs a q f → r ≡ q
+free-determined κs a r q e f p o = keeps-injective r q (determined p o)
+
+pub with-state-determined : (κs : Lfts 0) (a r q e f : _) → with-state.Post κs a r e → with-state.Post κs a q f → r ≡ q
+with-state-determined κs a r q e f p o = determined p o
+
+pub ours-determined : (κs : Lfts 0) (a r q e f : _) → ours.Post κs a r e → ours.Post κs a q f → r ≡ q
+ours-determined κs a r q e f p o = determined p o
+
+pub right-determined : (κs : Lfts 0) (a r q e f : _) → right.Post κs a r e → right.Post κs a q f → r ≡ q
+right-determined κs a r q e f p o = determined p o
+
+pub right-within-determined : (κs : Lfts 0) (a r q e f : _) → within.Post κs a r e → within.Post κs a q f → r ≡ q
+right-within-determined κs a r q e f p o = determined p o
+
+pub slot-of-determined : (κs : Lfts 0) (a r q e f : _) → slot-of.Post κs a r e → slot-of.Post κs a q f → r ≡ q
+slot-of-determined κs a r q e f p o = determined p o
+
+pub lowest-free-determined : (κs : Lfts 0) (a r q e f : _) → lowest-free.Post κs a r e → lowest-free.Post κs a q f → r ≡ q
+lowest-free-determined κs a r q e f p o = determined p o
+
+pub state-at-determined : (κs : Lfts 0) (a r q e f : _) → state-at.Post κs a r e → state-at.Post κs a q f → r ≡ q
+state-at-determined κs a r q e f p o = determined p o
