@@ -3,3 +3,4 @@ pub mod Found
 pub mod Numbers
 pub mod Kept
 pub mod Determined
+pub mod Literal

@@ -1,0 +1,105 @@
+-- The state check, set-up and a slot freed, on literal states at the limits that document 01 names.
+-- Assumes nothing.
+use mathlib.Core.Path.{_≡_, refl}
+use mathlib.Core.Bool.{Bool, true, false}
+use mathlib.Core.List.{List, [], _∷_, _++_, map}
+use Prim.Native.Nat.{ℕ}
+use Rattle.mctp.specs.declared.packet.Key.{Key}
+use Rattle.mctp.specs.Key.{sameKey}
+use Rattle.slots.specs.declared.state.Slot.{Slot}
+use Rattle.slots.specs.declared.state.SlotState.the-variants.{Gathering}
+use Rattle.slots.specs.declared.state.Receiver.{Receiver}
+use Rattle.slots.specs.Slots.{firstOf, slotOf, lowestFree}
+use Rattle.slots.specs.State.{multiple, rightNumbers, rightSlot, clash, rightState}
+use Rattle.slots.specs.Changes.{freeSlot, fresh, setUpOf, freedOf}
+
+-- the receiver of EID 9 with these slots
+abbrev pub with-slots : Slot → Slot → Slot → Slot → Receiver
+with-slots a b c d = record { setup = record { own = record { 0 = 9 } }; slots = a ∷ b ∷ c ∷ d ∷ [] }
+
+abbrev pub card : Receiver
+card = fresh (record { own = record { 0 = 9 } })
+
+abbrev pub key : ℕ → ℕ → Bool → ℕ → Key
+key d s o t = record { destination = record { 0 = d }; source = record { 0 = s }; owner = o; tag = t }
+
+abbrev slot : Key → ℕ → ℕ → ℕ → Slot
+slot k sequence unit held = record { state = Gathering k sequence unit held }
+
+-- a slot that gathers for tag t from EID 10, with n bytes in units of 64
+abbrev pub gathering : ℕ → ℕ → Slot
+gathering t n = slot (key 9 10 true t) 0 64 n
+
+-- whether EID 9 may have these four slots, or this one
+abbrev may-have : List Slot → Bool
+may-have slots = rightState 64 (record { setup = record { own = record { 0 = 9 } }; slots = slots })
+
+abbrev may-hold : Slot → Bool
+may-hold s = may-have (freeSlot ∷ s ∷ freeSlot ∷ freeSlot ∷ [])
+
+-- three slots of different tags
+abbrev a : Slot
+a = gathering 1 64
+
+abbrev b : Slot
+b = gathering 2 64
+
+abbrev c : Slot
+c = gathering 3 64
+
+-- keys that differ in destination, source or tag owner, and a slot for each
+abbrev keys : List Key
+keys = key 9 10 true 1 ∷ key 0 10 true 1 ∷ key 9 11 true 1 ∷ key 9 10 false 1 ∷ []
+
+abbrev near : List Slot
+near = map (λ (k : Key). slot k 0 64 64) keys
+
+pub record Literals : Type 0 where
+  -- "The receiver has an own EID (0 or 8 to 254)"
+  pub own-eids : map (λ (e : ℕ). setUpOf (record { own = record { 0 = e } }) .number) (0 ∷ 8 ∷ 254 ∷ 1 ∷ 7 ∷ 255 ∷ [])
+      ≡ 0 ∷ 0 ∷ 0 ∷ 1 ∷ 1 ∷ 1 ∷ []
+  -- "unit is 1 to 64"
+  pub units : map (λ (u : ℕ). may-hold (slot (key 9 10 true 0) 0 u u)) (1 ∷ 64 ∷ 0 ∷ 65 ∷ [])
+      ≡ true ∷ true ∷ false ∷ false ∷ []
+  -- "Held is a positive multiple of the unit, at most 1,024"
+  pub helds : map (λ (h : ℕ). may-hold (gathering 0 h)) (64 ∷ 1024 ∷ 0 ∷ 63 ∷ 65 ∷ 1088 ∷ [])
+      ≡ true ∷ true ∷ false ∷ false ∷ false ∷ false ∷ []
+  -- "sequence is 0 to 3, tag 0 to 7"
+  pub sequences : map (λ (q : ℕ). may-hold (slot (key 9 10 true 0) q 64 64)) (0 ∷ 3 ∷ 4 ∷ []) ≡ true ∷ true ∷ false ∷ []
+  pub tags : map (λ (t : ℕ). may-hold (gathering t 64)) (0 ∷ 7 ∷ 8 ∷ []) ≡ true ∷ true ∷ false ∷ []
+  -- "a key's destination is one that 16 lets through"; any source is right
+  pub destinations : map (λ (d : ℕ). may-hold (slot (key d 7 true 0) 0 64 64)) (0 ∷ 9 ∷ 255 ∷ 8 ∷ 10 ∷ 254 ∷ [])
+      ≡ true ∷ true ∷ true ∷ false ∷ false ∷ false ∷ []
+  -- "no two slots have one key", a key being "destination, source, tag owner, tag"
+  pub pairs : map may-have
+      ((a ∷ a ∷ b ∷ c ∷ []) ∷ (a ∷ b ∷ a ∷ c ∷ []) ∷ (a ∷ b ∷ c ∷ a ∷ [])
+      ∷ (b ∷ a ∷ a ∷ c ∷ []) ∷ (b ∷ a ∷ c ∷ a ∷ []) ∷ (b ∷ c ∷ a ∷ a ∷ []) ∷ near ∷ [])
+      ≡ false ∷ false ∷ false ∷ false ∷ false ∷ false ∷ true ∷ []
+  -- the slot of each key, and of one that differs in its tag
+  pub slots-of : map (slotOf near) (keys ++ (key 9 10 true 2 ∷ [])) ≡ 0 ∷ 1 ∷ 2 ∷ 3 ∷ 4 ∷ []
+  -- "the lowest free slot"
+  pub lowest : map (λ (s : List Slot). lowestFree s 0 4)
+      ((a ∷ freeSlot ∷ b ∷ freeSlot ∷ []) ∷ (a ∷ b ∷ c ∷ freeSlot ∷ []) ∷ (a ∷ b ∷ c ∷ a ∷ []) ∷ [])
+      ≡ 1 ∷ 3 ∷ 4 ∷ []
+  -- "A separate call frees slot 0 to 3 (any other number: 1)"
+  pub freed : map (freedOf 64 (with-slots a b c (gathering 4 64))) (2 ∷ 3 ∷ 4 ∷ [])
+      ≡ record { number = 0; receiver = with-slots a b freeSlot (gathering 4 64) }
+      ∷ record { number = 0; receiver = with-slots a b c freeSlot }
+      ∷ record { number = 1; receiver = with-slots a b c (gathering 4 64) }
+      ∷ []
+
+pub literals : Literals
+unfolding setUpOf freedOf slotOf lowestFree firstOf sameKey rightState rightSlot rightNumbers multiple clash
+literals =
+    record {
+      own-eids = refl;
+      units = refl;
+      helds = refl;
+      sequences = refl;
+      tags = refl;
+      destinations = refl;
+      pairs = refl;
+      slots-of = refl;
+      lowest = refl;
+      freed = refl;
+    }
