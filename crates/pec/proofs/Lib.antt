@@ -1,4 +1,5 @@
 pub mod Bitwise
+pub mod Changes
 pub mod Checks
 pub mod Determined
 pub mod Fold

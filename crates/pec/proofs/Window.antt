@@ -11,8 +11,9 @@ use lib.Dec.{T, eqb, T-not, lit<}
 use lib.ListN.{length, getD}
 use Rattle.pec.specs.Remainder.{lowTerms, polyStep, eightSteps, byteStep, pecFrom, pecOf}
 use Rattle.pec.specs.Sum.{plus}
-use Rattle.pec.specs.Wire.{Bytes, wire, Checked, WindowChange}
+use Rattle.pec.specs.Wire.{Bytes, bitsOf, wire, Checked, Change, WindowChange}
 use Rattle.pec.proofs.Bitwise.{bitStep, bitsFrom, bit-byte, bits-plus, pec-bits}
+use Rattle.pec.proofs.Changes.{change-of}
 use Rattle.pec.proofs.Checks.{poly-zero, checked-made, checked-zero}
 use Rattle.pec.proofs.Sum.{plus-at}
 use Rattle.pec.proofs.Tests.{both}
@@ -98,13 +99,18 @@ window s t bs bt cs ch ct =
     let quiet : (k : ℕ) → getD (wire s) k 0 ≡ getD (wire t) k 0 → getD (plus (wire s) (wire t)) k 0 ≡ 0 =
     λ k w. at k ∙ ap (λ (x : ℕ). bitXor x (getD (wire t) k 0)) w ∙ xor-self (getD (wire t) k 0) in
     let none : (k : ℕ) → getD (plus (wire s) (wire t)) k 0 ≡ 0 =
-    heard (ch .from) 8 (plus (wire s) (wire t)) (omega arith)
+    heard (ch .from) _ (plus (wire s) (wire t)) (omega arith)
     (λ k. rw (at k) (xor-lt 1 (getD (wire s) k 0) (getD (wire t) k 0) (wire-bits s k) (wire-bits t k)))
     (λ k l. quiet k (ch .before k l)) (λ k l. quiet k (ch .after k l)) (sum-zero s t bs bt (ch .lengths) cs ct) in
     ch .differs
     (wire-injective s t (ch .lengths) bs bt (λ k. xor-equal (getD (wire s) k 0) (getD (wire t) k 0) (sym (at k) ∙ none k)))
 
 -- Eight is the most: these two differ within nine neighbouring wire bits, by the polynomial itself, and both are checked.
-pub nine-pass : Checked (0x00 ∷ 0x00 ∷ []) × Checked (0x01 ∷ 0x07 ∷ [])
-unfolding polyStep eightSteps byteStep pecFrom pecOf
-nine-pass = (checked-made (0x00 ∷ []), checked-made (0x01 ∷ []))
+pub nine-pass : Change 9 (0x00 ∷ 0x00 ∷ []) (0x01 ∷ 0x07 ∷ []) × Checked (0x00 ∷ 0x00 ∷ []) × Checked (0x01 ∷ 0x07 ∷ [])
+unfolding polyStep eightSteps byteStep pecFrom pecOf wire bitsOf
+nine-pass = (
+  change-of 9 7 (0x00 ∷ 0x00 ∷ []) (0x01 ∷ 0x07 ∷ []) refl refl refl
+      (λ e. omega (arith, ap (λ (s : List ℕ). getD s 0 0) e)),
+  checked-made (0x00 ∷ []),
+  checked-made (0x01 ∷ []),
+)

@@ -1,4 +1,4 @@
--- What a frame is on the wire, what a checked one is, and what a change within eight neighbouring wire bits is.
+-- What a frame is on the wire, what a checked one is, and what a change within some neighbouring wire bits is.
 -- Document 01, "SMBus frame", and demand 3.
 -- Assumes nothing.
 use mathlib.Core.Path.{_≡_}
@@ -27,10 +27,14 @@ pub record Checked (s : List ℕ) : Type 0 where
   pub rest : List ℕ
   pub ends : s ≡ rest ++ (pecOf rest ∷ [])
 
--- "one or more bits changed, all within eight neighbouring bits in wire order": t is s so changed.
-pub record WindowChange (s t : List ℕ) : Type 0 where
+-- One or more bits changed, all within so many neighbouring bits in wire order: t is s so changed.
+pub record Change (width : ℕ) (s t : List ℕ) : Type 0 where
   pub lengths : length s ≡ length t
   pub from : ℕ
   pub before : (i : ℕ) → i < from → getD (wire s) i 0 ≡ getD (wire t) i 0
-  pub after : (i : ℕ) → from + 8 ≤ i → getD (wire s) i 0 ≡ getD (wire t) i 0
+  pub after : (i : ℕ) → from + width ≤ i → getD (wire s) i 0 ≡ getD (wire t) i 0
   pub differs : s ≡ t → ⊥
+
+-- "one or more bits changed, all within eight neighbouring bits in wire order"
+abbrev pub WindowChange : List ℕ → List ℕ → Type 0
+WindowChange s t = Change 8 s t

@@ -8,3 +8,4 @@ pub mod Placing
 pub mod Refusing
 pub mod RoundTrip
 pub mod Window
+pub mod Windows
