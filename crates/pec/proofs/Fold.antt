@@ -1,6 +1,6 @@
--- The remainder stays a byte, and it is worked out part by part: what comes later starts from what came before.
+-- The remainder: what a step makes of its highest and of its lowest bit; it stays a byte, and it is worked out part by part.
 -- Assumes nothing.
-use mathlib.Core.Path.{_≡_}
+use mathlib.Core.Path.{_≡_, refl}
 use mathlib.Core.List.{List, [], _∷_, _++_, foldl-append}
 use Prim.Native.Nat.{ℕ, _+_, _*_, _/_, _%_, _<_}
 use native.Mathlib.Numerals.{add-one}
@@ -10,6 +10,11 @@ use lib.Dec.{lit<}
 use lib.ListN.{length, take, getD}
 use lib.Seq.{take-suc}
 use Rattle.pec.specs.Remainder.{lowTerms, polyStep, eightSteps, byteStep, pecFrom, pecOf}
+
+-- "highest bit of each byte first": bit 7 falls out and leaves the low terms, bit 0 moves up.
+pub highest-first : (polyStep 0x80 ≡ 0x07) × (polyStep 0x01 ≡ 0x02)
+unfolding polyStep
+highest-first = (refl, refl)
 
 pub poly-byte : (r : ℕ) → polyStep r < 256
 unfolding polyStep

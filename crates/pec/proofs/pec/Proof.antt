@@ -76,7 +76,7 @@ loop-again c = (
 returns : tie.Need-returns Inv-loop μ-loop
 returns c =
     let s = c .before .before .before .before .args .s .now in
-    c .before .loop .inv .2 ∙ ap pecOf (take-all (c .before .loop .i) s (omega arith))
+    omega (arith, c .before .loop .inv .2 ∙ ap pecOf (take-all (c .before .loop .i) s (omega arith)))
 
 pub pec-spec : {M : Type 1} → statement M
 pec-spec =
