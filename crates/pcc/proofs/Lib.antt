@@ -6,5 +6,6 @@ pub mod Back
 pub mod Ignored
 pub mod Determined
 pub mod Literal
+pub mod Order
 pub mod Bytes
 pub mod Made

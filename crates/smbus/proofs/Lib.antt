@@ -4,6 +4,7 @@ pub mod Framing
 pub mod Literal
 pub mod Made
 pub mod Octets
+pub mod Order
 pub mod Placing
 pub mod Refusing
 pub mod RoundTrip

@@ -32,7 +32,7 @@ refusalOf most frame own =
     (pick (not (eqb (endOf frame) (pecOf (beforeEnd frame)))) 8
     0))))))))
 
--- where the packet stands: behind the four bytes of the head, before the PEC
+-- where the packet stands, in a refused frame too: behind the four bytes of the head, before the PEC
 unfoldable pub partOf : List ℕ → List ℕ
 partOf frame = take (length frame - 5) (drop 4 frame)
 

@@ -1,0 +1,31 @@
+-- The order of the checks on literal bytes: where two neighbouring checks both fail, the earlier one gives the number.
+-- Assumes nothing.
+use mathlib.Core.Path.{_≡_, refl}
+use mathlib.Core.List.{[], _∷_}
+use lib.ListN.{replicate}
+use Rattle.octets.specs.Bytes.{laid}
+use Rattle.octets.specs.Words.{wordAt, wordBytes}
+use Rattle.pcc.specs.Reading.{refusalOf}
+use Rattle.pcc.specs.Writing.{writeRefusal}
+use Rattle.pcc.specs.Literal.{literalRegion, lengthened}
+
+-- "Reading: 1 (id over 255), 2 (region under 84), 9, 5, 3 (length not 9 to 72)."
+pub record Reading : Type 0 where
+  pub one-two : refusalOf 64 [] 256 ≡ 1
+  pub two-nine : refusalOf 64 (replicate 83 0) 3 ≡ 2
+  pub nine-five : refusalOf 64 (replicate 84 0) 3 ≡ 9
+  pub five-three : refusalOf 64 (laid (lengthened 8) 12 (0x4E ∷ [])) 3 ≡ 5
+
+pub reading : Reading
+unfolding laid refusalOf wordAt wordBytes literalRegion lengthened
+reading = record { one-two = refl; two-nine = refl; nine-five = refl; five-three = refl }
+
+-- "Writing: 1, 3, 2 (region under 84)."
+pub record Writing : Type 0 where
+  pub one-three : writeRefusal 64 0 256 4 ≡ 1
+  pub three-two : writeRefusal 64 0 3 4 ≡ 3
+  pub two : writeRefusal 64 83 3 5 ≡ 2
+
+pub writing : Writing
+unfolding writeRefusal
+writing = record { one-three = refl; three-two = refl; two = refl }
