@@ -1,11 +1,12 @@
 -- What is known of arrivals on each path, from the carriers' and the message rules' own laws.
 -- Assumes nothing.
 use mathlib.Core.Path.{_≡_, refl, ap, sym, subst, _∙_}
-use mathlib.Core.Bool.{Bool, true}
+use mathlib.Core.Bool.{Bool, true, false}
 use mathlib.Core.List.{List, [], _∷_, _++_}
 use Prim.Native.Nat.{ℕ, _+_, _-_, _≤_}
 use native.Mathlib.Omega.{arith}
 use borrow.Author.Tests.{eq-eqb}
+use lib.Dec.{lit≤}
 use lib.ListN.{length, take, drop, replicate}
 use lib.Seq.{take-at}
 use Rattle.octets.specs.Bytes.{Below, fronted}
@@ -28,7 +29,7 @@ use Rattle.pcc.specs.Reading as pcc
 use Rattle.pcc.specs.Writing as regions
 use Rattle.pcc.proofs.Back as pcc-back
 use Rattle.pcc.proofs.Bytes.{every-bytes}
-use Rattle.mmbi.specs.Interface.{stateOf, mayRead}
+use Rattle.mmbi.specs.Interface.{flagsOf, stateOf, mayRead}
 use Rattle.mmbi.specs.declared.interface.Flags.{Flags}
 use Rattle.ring.specs.Numbers.{lengthRight}
 use Rattle.ring.specs.Turn.{turn, stored}
@@ -37,6 +38,7 @@ use Rattle.ring.specs.Runs.{arrivalRing}
 use Rattle.ring.specs.Reading as taking
 use Rattle.ring.specs.Writing as putting
 use Rattle.ring.specs.declared.reading.Taken.the-variants as case
+use Rattle.ring.proofs.Made.{turn-bytes}
 use Rattle.ring.proofs.RoundTrip as ring-round
 use Rattle.slots.specs.declared.state.Receiver.{Receiver}
 use Rattle.receiver.specs.Effects.{Unchanged, SlotFreed}
@@ -142,10 +144,6 @@ module _ (p : List ℕ) where
       below-append (wordBytes highFirst (headerFor (length p))) (p ++ replicate (paddingFor (length p)) 0) (below-word highFirst (headerFor (length p)))
       (below-append p (replicate (paddingFor (length p)) 0) b (below-zeros (paddingFor (length p))))
 
-  turn-bytes : (n : ℕ) (s : List ℕ) → Below 256 s → Below 256 (turn n s)
-  unfolding turn
-  turn-bytes n s b = below-append (drop n s) (take n s) (below-drop n s b) (below-take n s b)
-
   arrival-bytes : (configured : ℕ) → Below 256 p → Below 256 (arrivalRing configured p)
   unfolding arrivalRing stored fronted
   arrival-bytes configured b =
@@ -162,3 +160,9 @@ module _ (p : List ℕ) where
     arrival-bytes configured b,
     ring-found 64 (arrivalRing configured p) configured flags 0 (wholeFor (length p)) p (wholeFor (length p)) out runs (ring-round.arrival-base configured p out right sized room),
   )
+
+  pub every-ring-base : Below 256 p → packetSize 64 (length p) ≡ true
+      → Below 256 (arrivalRing 128 p)
+      × (ringCarries 64 (arrivalRing 128 p) 128 (flagsOf true false true false) 0 (wholeFor (length p)) (replicate 68 0) ≡ packet p (Next (wholeFor (length p))))
+  unfolding stateOf
+  every-ring-base b sized = every-ring 128 (flagsOf true false true false) (replicate 68 0) b sized refl refl (lit≤ tt)

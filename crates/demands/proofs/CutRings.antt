@@ -1,7 +1,8 @@
--- A ring cut out of a window by a configuration that was read from it has a length that the ring calls take.
+-- A ring cut out of a window by a configuration that was read from it: its length is one that the ring calls take, and what
+-- they write there leaves the rest of the window.
 -- Assumes nothing.
-use mathlib.Core.Path.{_≡_, sym}
-use mathlib.Core.Bool.{true}
+use mathlib.Core.Path.{_≡_, sym, _∙_}
+use mathlib.Core.Bool.{Bool, true}
 use mathlib.Core.List.{List}
 use Prim.Native.Nat.{ℕ}
 use native.Mathlib.Omega.{arith}
@@ -10,10 +11,14 @@ use Rattle.descriptor.specs.declared.configuration.Configuration.{Configuration
 use Rattle.descriptor.specs.declared.configuration.Part.{Part}
 use Rattle.descriptor.specs.Configuration.{partPlace, isRing}
 use Rattle.descriptor.specs.Descriptor.{found, outcomeOf}
-use Rattle.window.specs.Window.{partOf}
+use Rattle.descriptor.proofs.Refusals.{found-allowed}
+use Rattle.window.specs.Window.{partOf, RingChanged}
 use Rattle.window.proofs.Parts.{found-ring-cut}
+use Rattle.window.proofs.PutBack.{put-back}
 use Rattle.ring.specs.Numbers.{setUpRight}
+use Rattle.ring.specs.Writing as putting
 use Rattle.ring.proofs.Readings.{set-up-holds}
+use Rattle.ring.proofs.RoundTrip.{written-length}
 
 pub cut-ring-right : (window : List ℕ) (c : Configuration) (part : Part) → isRing part ≡ true → outcomeOf window ≡ found c
     → setUpRight 64 (partPlace c part .length) (length (partOf window c part)) ≡ true
@@ -21,3 +26,15 @@ cut-ring-right window c part is e =
     let cut = found-ring-cut window c part is e in
     set-up-holds 64 (partPlace c part .length) (length (partOf window c part))
     (record { low = omega arith; high = omega arith; size = record { low = cut .1 .least; high = cut .1 .most; fours = cut .1 .aligned }; same = sym (cut .0) })
+
+-- the window once a ring that was lent out of it, and written to, is back
+module _ (window : List ℕ) (c : Configuration) (part : Part) (is : isRing part ≡ true) (e : outcomeOf window ≡ found c)
+  (configured : ℕ) (running : Bool) (read write : ℕ) (p : List ℕ) where
+  abbrev ring : List ℕ
+  ring = putting.writeOf 64 (partOf window c part) configured running read write p .ring
+
+  fits : length ring ≡ partPlace c part .length
+  fits = written-length 64 (partOf window c part) configured running read write p ∙ found-ring-cut window c part is e .0
+
+  pub write-stays : RingChanged window c part ring
+  write-stays = put-back window c part ring is (found-allowed window c e) fits

@@ -1,51 +1,65 @@
 -- The three demands of the racks, sentence by sentence, each a theorem over the definitions that the public contracts cite. 64 is the base's largest body.
 -- Assumes nothing.
 use mathlib.Core.Path.{_≡_, ap}
-use mathlib.Core.Bool.{Bool, true}
+use mathlib.Core.Bool.{Bool, true, false}
 use mathlib.Core.List.{List, [], _∷_, _++_}
-use Prim.Native.Nat.{ℕ, _≤_}
-use lib.ListN.{length, take}
-use Rattle.octets.specs.Bytes.{Below}
-use Rattle.mctp.specs.Packet.{packetSize}
+use Prim.Native.Nat.{ℕ, _+_, _≤_, _<_}
+use lib.Dec.{ltb}
+use lib.ListN.{length, take, replicate}
+use Rattle.octets.specs.Bytes.{Below, fronted}
+use Rattle.octets.specs.Words.{lowFirst, wordAt}
+use Rattle.mctp.specs.Packet.{packetSize, bodyOf, endOf}
 use Rattle.mctp.specs.Key.{keyOf}
 use Rattle.pec.specs.Wire.{WindowChange}
 use Rattle.smbus.specs.Frame.{frameOf}
 use Rattle.smbus.specs.Reading as smbus
 use Rattle.smbus.specs.Writing as frames
-use Rattle.smbus.proofs.Placing.{output-unwritten}
+use Rattle.smbus.proofs.Placing.{output-written, output-unwritten}
 use Rattle.smbus.proofs.Window.{window-refused}
-use Rattle.pcc.specs.Region.{regionFor}
+use Rattle.pcc.specs.Region.{regionWith, regionOf, regionFor}
+use Rattle.pcc.specs.Reading as pcc
 use Rattle.pcc.specs.Writing as regions
-use Rattle.pcc.proofs.Writing.{written-refused}
+use Rattle.pcc.proofs.Made.{good-front}
+use Rattle.pcc.proofs.Writing.{written-whole, written-refused}
 use Rattle.descriptor.specs.declared.configuration.Part.{Part}
 use Rattle.descriptor.specs.declared.configuration.Configuration.{Configuration}
 use Rattle.descriptor.specs.Descriptor.{outcomeOf, found}
 use Rattle.descriptor.specs.Configuration.{isRing, partPlace}
-use Rattle.window.specs.Window.{partOf}
-use Rattle.mmbi.specs.Interface.{stateOf, mayRead}
+use Rattle.window.specs.declared.word.Pointer.{Pointer}
+use Rattle.window.specs.Window.{partOf, storeRefusal, stored, storedPointer, RingChanged}
+use Rattle.window.proofs.Stores.{stored-refused, pointer-refused}
+use Rattle.mmbi.specs.declared.word.Word.{Word}
+use Rattle.mmbi.specs.Interface.{flagsOf, stateOf, mayRead}
 use Rattle.mmbi.specs.declared.interface.Flags.{Flags}
 use Rattle.ring.specs.Numbers.{lengthRight}
-use Rattle.ring.specs.Packet.{wholeFor}
+use Rattle.ring.specs.Packet.{packetOf, wholeFor, ringBytes, RingLayout}
+use Rattle.ring.specs.Turn as turning
+use Rattle.ring.specs.Turn.{turn}
 use Rattle.ring.specs.Runs.{arrivalRing}
 use Rattle.ring.specs.Reading as taking
 use Rattle.ring.specs.Writing as putting
+use Rattle.ring.proofs.Made.{ring-layout}
 use Rattle.ring.proofs.Readings.{taken-not-1}
 use Rattle.ring.proofs.Writings.{put-not-1}
 use Rattle.slots.specs.declared.state.Receiver.{Receiver}
 use Rattle.slots.specs.declared.state.Setup.{Setup}
-use Rattle.slots.specs.Changes.{fresh}
+use Rattle.slots.specs.Slots.{slotOf}
+use Rattle.slots.specs.State.{rightState}
+use Rattle.slots.specs.Changes.{fresh, freedOf}
+use Rattle.slots.proofs.Kept.{freed-refused}
 use Rattle.receiver.specs.Effects.{Unchanged, SlotFreed}
-use Rattle.receiver.specs.Step.{refused, stepOf}
-use Rattle.messages.specs.Run.{give, run, runPackets}
-use Rattle.messages.specs.Message.{Item, callsOf, Train, Accepted, slotFor}
-use Rattle.messages.proofs.Acceptance.{acceptance}
+use Rattle.receiver.specs.Step.{refused, done, stepOf}
+use Rattle.receiver.proofs.Laws.{refused-unchanged, refused-freed}
+use Rattle.messages.specs.Run.{give, rules, run, runPackets}
+use Rattle.messages.specs.Message.{Item, callsOf, Starts, Train, Accepted, slotFor}
+use Rattle.messages.proofs.Acceptance.{acceptance, single-accepted}
 use Rattle.rack.specs.declared.answer.Known.{Known}
 use Rattle.rack.specs.declared.answer.Known.the-variants.{Source, Notify, Next}
 use Rattle.rack.specs.Arrivals.{Arrival, bySmbus, byPcc, byRing, Without, packet, none, carries, ringCarries}
 use Rattle.rack.specs.Answers.{Left, given, nothing}
 use Rattle.demands.specs.Presenting.{arrival, present, packetsOf}
 use Rattle.demands.proofs.Arrivals as good
-use Rattle.demands.proofs.CutRings.{cut-ring-right}
+use Rattle.demands.proofs.CutRings.{cut-ring-right, write-stays}
 use Rattle.demands.proofs.Outputs as outputs
 use Rattle.demands.proofs.Presented.{presented}
 
@@ -70,6 +84,19 @@ pub refused-and-freed : (r : Receiver) (m p : List ℕ) (a : Arrival) (known : K
     → arrival 64 r m a .told ≡ given known (refused n) → 20 ≤ n → SlotFreed (keyOf p) r m (arrival 64 r m a .receiver) (arrival 64 r m a .memory)
 refused-and-freed r m p a known n e = good.rules-freed 64 r m p known n (carries 64 a) e
 
+-- a packet given to the message rules directly: the same
+pub given-and-refused : (r : Receiver) (m p : List ℕ) (n : ℕ) → stepOf 64 r m p .said ≡ refused n → (n ≡ 20 → ⊥) → (n ≡ 21 → ⊥) → (n ≡ 22 → ⊥)
+    → Unchanged r m (stepOf 64 r m p .receiver) (stepOf 64 r m p .memory)
+given-and-refused = refused-unchanged 64
+
+pub given-and-freed : (r : Receiver) (m p : List ℕ) (n : ℕ) → stepOf 64 r m p .said ≡ refused n → 20 ≤ n
+    → SlotFreed (keyOf p) r m (stepOf 64 r m p .receiver) (stepOf 64 r m p .memory)
+given-and-freed = refused-freed 64
+
+-- a slot that is refused to be freed: the receiver stays, and no memory is lent to the call
+pub not-freed : (r : Receiver) (i : ℕ) → (freedOf 64 r i .number ≡ 0 → ⊥) → freedOf 64 r i .receiver ≡ r
+not-freed = freed-refused 64
+
 -- "and a ring packet that was already copied out": the output holds it at its front, and is unchanged where there is none
 pub ring-output : (ring : List ℕ) (configured : ℕ) (flags : Flags) (read write : ℕ) (out : List ℕ)
     → taking.readOf 64 ring configured (mayRead (stateOf flags)) read write out .output ≡ outputs.outputOf (ringCarries 64 ring configured flags read write out) out
@@ -85,6 +112,21 @@ cut-ring-is-never-1 window c part is e running read write n =
       taken-not-1 64 (partOf window c part) (partPlace c part .length) running read write n right,
       put-not-1 64 (length (partOf window c part)) (partPlace c part .length) running read write n right,
     )
+
+-- what is written to it changes that ring alone: descriptor, words and the other ring stay
+pub a-write-stays-in-its-ring : (window : List ℕ) (c : Configuration) (part : Part) → isRing part ≡ true → outcomeOf window ≡ found c
+    → (configured : ℕ) (running : Bool) (read write : ℕ) (p : List ℕ)
+    → RingChanged window c part (putting.writeOf 64 (partOf window c part) configured running read write p .ring)
+a-write-stays-in-its-ring = write-stays
+
+-- a word, and a pointer alone, that are refused to be stored: the window stays
+pub not-stored : (window : List ℕ) (c : Configuration) (which : Pointer) (word : Word) → (storeRefusal (length window) c which (word .pointer) ≡ 0 → ⊥)
+    → stored window c which word ≡ window
+not-stored = stored-refused
+
+pub pointer-not-stored : (window : List ℕ) (c : Configuration) (which : Pointer) (pointer : ℕ) → (storeRefusal (length window) c which pointer ≡ 0 → ⊥)
+    → storedPointer window c which pointer ≡ window
+pointer-not-stored = pointer-refused
 
 -- a refused writer leaves what was lent to it
 pub frame-not-written : (out p : List ℕ) (destination source : ℕ) → (frames.writeRefusal 64 (length out) (length p) destination source ≡ 0 → ⊥)
@@ -107,12 +149,44 @@ pub good-frame-is-the-layout : (frame : List ℕ) (own : ℕ) (h : smbus.refusal
     → frame ≡ frameOf own (smbus.sourceAddressOf 64 frame own) (smbus.packetOf 64 frame own)
 good-frame-is-the-layout = good.frame-layout 64
 
+pub written-frame-is-the-layout : (out p : List ℕ) (destination source : ℕ) → frames.writeRefusal 64 (length out) (length p) destination source ≡ 0
+    → frames.outputOf 64 out p destination source ≡ fronted out (frameOf destination source p)
+written-frame-is-the-layout = output-written 64
+
+-- a good region is the layout of its packet with its own flags, of which bit 0 is notify, and a written one has no other flag
+pub good-region-is-the-layout : (region : List ℕ) (id : ℕ) → Below 256 region → pcc.refusalOf 64 region id ≡ 0
+    → take (16 + length (pcc.packetOf 64 region id)) region ≡ regionWith id (wordAt lowFirst region 4) (pcc.packetOf 64 region id)
+good-region-is-the-layout = good-front 64
+
+pub written-region-is-the-layout : (region : List ℕ) (id : ℕ) (notify : Bool) (p : List ℕ) → regions.writeRefusal 64 (length region) id (length p) ≡ 0
+    → regions.writtenOf 64 region id notify p ≡ fronted region (regionOf id notify p)
+written-region-is-the-layout region id notify p = written-whole region p id notify 64
+
+-- a packet taken out of a ring stands there from the read pointer on as Table 6 has it, with some reserved bits and some padding of the right length, and a
+-- written one with zeros
+pub good-ring-packet-is-the-layout : (ring : List ℕ) (configured : ℕ) (running : Bool) (read write output size next : ℕ) → Below 256 ring
+    → taking.takenOf 64 ring configured running read write output ≡ taking.packet size next
+    → RingLayout (turn read ring) (packetOf (turn read ring))
+good-ring-packet-is-the-layout = ring-layout 64
+
+pub written-ring-packet-is-the-layout : (ring : List ℕ) (configured : ℕ) (running : Bool) (read write : ℕ) (p : List ℕ) (next : ℕ)
+    → putting.writeOf 64 ring configured running read write p .says ≡ putting.written next
+    → putting.writeOf 64 ring configured running read write p .ring ≡ turning.stored ring write (ringBytes p)
+written-ring-packet-is-the-layout ring configured running read write p next e = ap (λ (s : putting.Said). putting.ringOf s ring write p) e
+
 -- "and messages are put together by the MCTP rules": packets of one key with start first, sequences rising modulo 4, middles of the start's size, an end
 -- no longer, are accepted whatever may stand between; held is the sum of the bodies so far, the message is the bodies joined
 pub messages-are-put-together : (r : Receiver) (m first : List ℕ) (items : List Item) (final : List ℕ) (t : Train 64 r m first items final)
     → Accepted r first items final (run 64 r m (give first ∷ (callsOf items ++ (give final ∷ []))))
     (run 64 (stepOf 64 r m first .receiver) (stepOf 64 r m first .memory) (callsOf items)) (slotFor (r .slots) (keyOf first))
 messages-are-put-together r m first items final t = acceptance 64 r m first items final t
+
+-- a message of one packet, with start and end, is done at once
+pub a-message-of-one-packet : (r : Receiver) (m p : List ℕ) → rightState 64 r ≡ true → length m ≡ 4096 → slotFor (r .slots) (keyOf p) < 4
+    → Starts 64 (r .setup) p → endOf p ≡ true
+    → (run 64 r m (give p ∷ []) .answers ≡ rules (done (slotFor (r .slots) (keyOf p)) (length (bodyOf p)) (ltb (slotOf (r .slots) (keyOf p)) 4)) ∷ [])
+    × (run 64 r m (give p ∷ []) .messages ≡ bodyOf p ∷ [])
+a-message-of-one-packet = single-accepted 64
 
 -- "What is written reads back the same": "a frame at its destination address,"
 pub frame-reads-back : (out p : List ℕ) (destination source : ℕ) → frames.writeRefusal 64 (length out) (length p) destination source ≡ 0
@@ -158,6 +232,12 @@ pub every-packet-by-ring : (p : List ℕ) (configured : ℕ) (flags : Flags) (ou
     → Below 256 (arrivalRing configured p)
     × (carries 64 (byRing (arrivalRing configured p) configured flags 0 (wholeFor (length p)) out) ≡ packet p (Next (wholeFor (length p))))
 every-packet-by-ring p = good.every-ring p
+
+-- of which one is for every packet: 128 bytes, B_UP and H_UP set (1010), an output of 68
+pub every-packet-by-a-ring : (p : List ℕ) → Below 256 p → packetSize 64 (length p) ≡ true
+    → Below 256 (arrivalRing 128 p)
+    × (carries 64 (byRing (arrivalRing 128 p) 128 (flagsOf true false true false) 0 (wholeFor (length p)) (replicate 68 0)) ≡ packet p (Next (wholeFor (length p))))
+every-packet-by-a-ring = good.every-ring-base
 
 -- "A good SMBus frame with one or more bits changed, all within eight neighbouring bits in wire order, is refused.": at every own address
 pub changed-frame-is-refused : (frame changed : List ℕ) → Below 256 frame → Below 256 changed → WindowChange frame changed

@@ -28,7 +28,10 @@ use Rattle.receiver.specs.Step as rules
 use Rattle.rack.specs.declared.answer.Known.{Known}
 use Rattle.rack.specs.Arrivals.{Arrival, bySmbus, byPcc, byRing, Carried, Without, packet, carries}
 use Rattle.rack.specs.Answers.{Told, given, nothing, Left, arrivedOf}
-use Rattle.demands.specs.Presenting.{arrival, packetIn, packetsOf}
+use Rattle.transcript.specs.declared.state.State.{State}
+use Rattle.transcript.specs.Frame.{start, oneMore, withPacket, frameOf}
+use Rattle.transcript.specs.Transcript as transcript
+use Rattle.demands.specs.Presenting.{arrival}
 use Rattle.demands.specs.Numbers.{card, empty, packetWith}
 use Rattle.demands.proofs.Arrivals.{every-region, every-ring}
 use Rattle.demands.proofs.Checked.{literal-carried}
@@ -59,10 +62,6 @@ gathering =
           ∷ [];
     }
 
-no-memory : rules.stepOf 64 card [] [] .said ≡ rules.refused 2
-unfolding rules.stepOf decided fromPacket fromSource setupRefusal packetRefusal sourceRefusal ruled onStart onFollow gathered after slotOf lowestFree firstOf headerOf keyOf sameKey rightState rightSlot rightNumbers multiple clash laid
-no-memory = refl
-
 first-taken : isFree (slotAt (rules.stepOf 64 card empty (packetWith 0x80 1 7) .receiver .slots) 0) ≡ false
 unfolding rules.stepOf decided fromPacket fromSource setupRefusal packetRefusal sourceRefusal ruled onStart onFollow gathered after slotOf lowestFree firstOf headerOf keyOf sameKey rightState rightSlot rightNumbers multiple clash laid
 first-taken = refl
@@ -83,13 +82,13 @@ held-two : rules.stepOf 64 card empty (packetWith 0x80 2 7) .said ≡ rules.held
 unfolding rules.stepOf decided fromPacket fromSource setupRefusal packetRefusal sourceRefusal ruled onStart onFollow gathered after slotOf lowestFree firstOf headerOf keyOf sameKey rightState rightSlot rightNumbers multiple clash laid
 held-two = refl
 
-none-found : length (packetsOf 64 []) ≡ 0
-unfolding packetsOf
-none-found = refl
+none-counted : transcript.run start empty [] .state .packets ≡ 0
+unfolding transcript.run
+none-counted = refl
 
-one-found : length (packetsOf 64 (bySmbus literalFrame 32 ∷ [])) ≡ 1
-unfolding packetsOf
-one-found = ap (λ (c : Carried). length (packetIn c ++ [])) literal-carried
+one-counted : transcript.run start empty (literalFrame ∷ []) .state .packets ≡ 1
+unfolding transcript.run frameOf oneMore
+one-counted = ap (λ (c : Carried). withPacket (arrivedOf 64 card empty c .told) 0) literal-carried
 
 -- "One that refuses everything is shut out by 3's arrival on each path with 2's reading.": a good arrival is never answered with a refusal
 module _ (build : Receiver → List ℕ → Arrival → Left) (meets : (r : Receiver) (m : List ℕ) (a : Arrival) → build r m a ≡ arrival 64 r m a) where
@@ -125,11 +124,23 @@ module _ (build : Receiver → List ℕ → List ℕ → rules.Left) (meets : (r
   said : (r : Receiver) (m p : List ℕ) (s : rules.Said) → rules.stepOf 64 r m p .said ≡ s → build r m p .said ≡ s
   said r m p s e = ap (λ (l : rules.Left). l .said) (meets r m p) ∙ e
 
-  -- "One that answers "done, slot 0" to all is shut out by 2's message rules."
+  -- a start of one byte, to a receiver just set up
+  begun : build card empty (packetWith 0x80 1 7) .said ≡ rules.held 0 1 false
+  begun = said card empty (packetWith 0x80 1 7) (rules.held 0 1 false) held-one
+
+  -- "One that answers "done, slot 0" to all is shut out by 2's message rules.": a start without end is held
   pub done-to-all : ((r : Receiver) (m p : List ℕ) → (n : ℕ) × (again : Bool) × (build r m p .said ≡ rules.done 0 n again)) → ⊥
   done-to-all all =
-      let claim = all card [] [] .2 in
-      let rule = said card [] [] (rules.refused 2) no-memory in
+      let claim = all card empty (packetWith 0x80 1 7) .2 in
+      let rule = begun in
+      let z : _≡_ {A = ℕ} 0 1 = cc in
+      omega arith
+
+  -- one whose message rules refuse every packet is shut out by them too
+  pub refuses-every-packet : ((r : Receiver) (m p : List ℕ) → (n : ℕ) × (build r m p .said ≡ rules.refused n)) → ⊥
+  refuses-every-packet all =
+      let claim = all card empty (packetWith 0x80 1 7) .1 in
+      let rule = begun in
       let z : _≡_ {A = ℕ} 0 1 = cc in
       omega arith
 
@@ -161,13 +172,14 @@ module _ (build : Receiver → List ℕ → List ℕ → rules.Left) (meets : (r
   -- "A made-up held .. count fails since held is the sum of the bodies"
   pub one-held-count : (n : ℕ) → ((r : Receiver) (m p : List ℕ) (slot bytes : ℕ) (again : Bool) → build r m p .said ≡ rules.held slot bytes again → bytes ≡ n) → ⊥
   one-held-count n all =
-      let one = all card empty (packetWith 0x80 1 7) 0 1 false (said card empty (packetWith 0x80 1 7) (rules.held 0 1 false) held-one) in
+      let one = all card empty (packetWith 0x80 1 7) 0 1 false begun in
       let two = all card empty (packetWith 0x80 2 7) 0 2 false (said card empty (packetWith 0x80 2 7) (rules.held 0 2 false) held-two) in
       omega arith
 
--- ".. or packet count fails since .. packets is counted by 2's layouts."
-pub one-packet-count : (count : List Arrival → ℕ) → ((arrivals : List Arrival) → count arrivals ≡ length (packetsOf 64 arrivals))
-    → (n : ℕ) → ((arrivals : List Arrival) → count arrivals ≡ n) → ⊥
-one-packet-count count meets n all =
-    let good = bySmbus literalFrame 32 in
-    omega (arith, meets [], all [], none-found, meets (good ∷ []), all (good ∷ []), one-found)
+-- ".. or packet count fails since .. packets is counted by 2's layouts.": a build is the state that the transcript's calls leave after some frames
+pub one-packet-count : (build : List (List ℕ) → State) → ((frames : List (List ℕ)) → build frames ≡ transcript.run start empty frames .state)
+    → (n : ℕ) → ((frames : List (List ℕ)) → build frames .packets ≡ n) → ⊥
+one-packet-count build meets n all =
+    let none : build [] .packets ≡ 0 = ap (λ (s : State). s .packets) (meets []) ∙ none-counted in
+    let one : build (literalFrame ∷ []) .packets ≡ 1 = ap (λ (s : State). s .packets) (meets (literalFrame ∷ [])) ∙ one-counted in
+    omega (arith, none, one, all [], all (literalFrame ∷ []))

@@ -12,7 +12,7 @@ use Rattle.octets.specs.Words.{highFirst, wordAt, wordBytes}
 use Rattle.octets.proofs.Below.{below-append, below-take, below-drop}
 use Rattle.octets.proofs.Words.{bytes-back}
 use Rattle.ring.specs.Numbers.{filledOf, nextOf}
-use Rattle.ring.specs.Packet.{headerAt, lengthField, paddingField, typeField, wholeOf, sizeOf, packetOf, paddingFor, wholeFor, headerFor, ringWith}
+use Rattle.ring.specs.Packet.{headerAt, lengthField, paddingField, typeField, wholeOf, sizeOf, packetOf, paddingFor, wholeFor, headerFor, ringWith, RingLayout}
 use Rattle.ring.specs.Reading.{packet, takenOf}
 use Rattle.ring.specs.Turn.{turn}
 use Rattle.ring.proofs.Numbers.{filled-below}
@@ -71,11 +71,11 @@ module _ (most : ℕ) (ring : List ℕ) (configured : ℕ) (running : Bool) (rea
   lies =
       omega (arith, header .held, turn-length read ring, g .set-up .same, filled-below configured read write (g .from .below) (g .to .below))
 
-  pub taken-length : length (packetOf s) ≡ sizeOf (headerAt s)
+  taken-length : length (packetOf s) ≡ sizeOf (headerAt s)
   unfolding packetOf
   taken-length = simp (length-take, length-drop) (omega (arith, lies, header .counted))
 
-  pub taken-whole : take (wholeFor (length (packetOf s))) s
+  taken-whole : take (wholeFor (length (packetOf s))) s
       ≡ ringWith (headerAt s / 16 % 16) (packetOf s) (take (paddingFor (length (packetOf s))) (drop (4 + length (packetOf s)) s))
   unfolding packetOf
   taken-whole =
@@ -89,8 +89,18 @@ module _ (most : ℕ) (ring : List ℕ) (configured : ℕ) (running : Bool) (rea
       parts s n (paddingFor n) ∙ (λ i. head i ++ (body i ++ take (paddingFor n) (drop (4 + n) s)))
 
   -- and the padding is as long as it is said
-  pub taken-padding : length (take (paddingFor (length (packetOf s))) (drop (4 + length (packetOf s)) s)) ≡ paddingFor (length (packetOf s))
+  taken-padding : length (take (paddingFor (length (packetOf s))) (drop (4 + length (packetOf s)) s)) ≡ paddingFor (length (packetOf s))
   taken-padding =
       let n = length (packetOf s) in
       let whole : wholeFor n ≡ wholeOf (headerAt s) = ap wholeFor taken-length ∙ sym (whole-is (headerAt s) (header .ours) (header .counted)) in
       held s n (paddingFor n) (subst (λ (k : ℕ). k < length s) (sym whole) lies)
+
+  pub ring-layout : RingLayout s (packetOf s)
+  ring-layout =
+      record {
+        reserved = headerAt s / 16 % 16;
+        padding = take (paddingFor (length (packetOf s))) (drop (4 + length (packetOf s)) s);
+        four-bits = omega arith;
+        padded = taken-padding;
+        laid-out = taken-whole;
+      }

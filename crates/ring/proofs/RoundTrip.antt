@@ -21,6 +21,7 @@ use Rattle.mmbi.proofs.Pointers.{Pointer}
 use Rattle.ring.proofs.Numbers.{Length, length-facts, filled-near, filled-room, next-near}
 use Rattle.ring.proofs.Readings as readings
 use Rattle.ring.proofs.Readings.{SetUp}
+use Rattle.ring.proofs.Turns.{stored-length}
 use Rattle.ring.proofs.Writings as writings
 
 -- the packet that a ring holds first is read, answer and output
@@ -43,6 +44,20 @@ alone : (most configured : ℕ) (ring : List ℕ) (pointer : ℕ) (p : List ℕ)
     → Holds most configured (stored ring pointer (ringBytes p)) pointer (nextOf configured pointer (wholeFor (length p))) (p ∷ [])
 alone most configured ring pointer p set-up at sized fits =
     holds-written most configured ring pointer pointer [] p (holds-none most configured ring pointer set-up at) sized (omega (arith, room-none configured pointer (set-up .size) at))
+
+-- writing keeps the ring's length, refused or not
+pub written-length : (most : ℕ) (ring : List ℕ) (configured : ℕ) (running : Bool) (read write : ℕ) (p : List ℕ)
+    → length (writing.writeOf most ring configured running read write p .ring) ≡ length ring
+written-length most ring configured running read write p =
+    by-answer (writing.putOf most (length ring) configured running read write (length p)) refl
+  where
+    by-answer : (said : writing.Said) → writing.putOf most (length ring) configured running read write (length p) ≡ said
+        → length (writing.ringOf said ring write p) ≡ length ring
+    by-answer (writing.refused n) e = refl
+    by-answer (writing.written next) e =
+        let g = writings.good most (length ring) configured running read write (length p) next e in
+        let fits = writings.good-fits most (length ring) configured running read write (length p) next g in
+        stored-length ring write (ringBytes p) (omega (arith, fits, bytes-length p, g .set-up .same))
 
 -- writing changes no byte that a reader could still take
 pub written-kept : (most : ℕ) (ring : List ℕ) (configured : ℕ) (running : Bool) (read write : ℕ) (p : List ℕ) (next : ℕ)

@@ -1,6 +1,7 @@
 -- A packet in the ring (Table 6 of 003): a header of four bytes, the MCTP packet, padding. The header is a word with its highest byte first (003, 4.2).
 -- Assumes nothing.
-use Prim.Native.Nat.{ℕ, _+_, _-_, _*_, _/_, _%_}
+use mathlib.Core.Path.{_≡_}
+use Prim.Native.Nat.{ℕ, _+_, _-_, _*_, _/_, _%_, _<_}
 use mathlib.Core.List.{List, _++_}
 use lib.ListN.{length, take, drop, replicate}
 use Rattle.octets.specs.Words.{highFirst, wordAt, wordBytes}
@@ -56,3 +57,11 @@ ringBytes packet = wordBytes highFirst (headerFor (length packet)) ++ (packet ++
 -- as any maker may write it: "[7:4] – Reserved" of byte 3, and padding of any bytes
 abbrev pub ringWith : ℕ → List ℕ → List ℕ → List ℕ
 ringWith reserved packet padding = wordBytes highFirst (headerFor (length packet) + 16 * reserved) ++ (packet ++ padding)
+
+-- a list that starts with this packet, laid out so
+pub record RingLayout (s packet : List ℕ) : Type 0 where
+  pub reserved : ℕ
+  pub padding : List ℕ
+  pub four-bits : reserved < 16
+  pub padded : length padding ≡ paddingFor (length packet)
+  pub laid-out : take (wholeFor (length packet)) s ≡ ringWith reserved packet padding

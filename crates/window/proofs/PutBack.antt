@@ -18,7 +18,7 @@ use Rattle.descriptor.specs.Configuration.{partPlace, isRing, allowed, Allowed,
 use Rattle.descriptor.proofs.Configurations.{allowed-facts}
 use Rattle.window.specs.declared.word.Pointer.{Pointer}
 use Rattle.window.specs.declared.word.Pointer.the-variants.{H2bWrite, B2hRead, B2hWrite, H2bRead}
-use Rattle.window.specs.Window.{placeIn, bytesAt, partOf, putBack, wordPlace, wordIn, interfaceIn}
+use Rattle.window.specs.Window.{placeIn, bytesAt, partOf, putBack, wordPlace, wordIn, interfaceIn, RingChanged}
 use Rattle.window.proofs.LaidWords.{laid-beside, laid-word-beside}
 use Rattle.window.proofs.Parts.{part-fits, ring-right}
 use Rattle.window.proofs.Stores.{ring-clear, beside}
@@ -46,7 +46,7 @@ module _ (s : List ℕ) (c : Configuration) (ring : Part) (bytes : List ℕ) (is
   kept-length = laid-length s (partPlace c ring .offset) bytes
 
   -- the descriptor
-  pub descriptor-stays : take 64 (putBack s c ring bytes) ≡ take 64 s
+  descriptor-stays : take 64 (putBack s c ring bytes) ≡ take 64 s
   descriptor-stays =
       let right : RingRight (partPlace c ring) = ring-right (length s) c ring is facts in
       laid-beside s (partPlace c ring .offset) bytes 0 64
@@ -61,12 +61,12 @@ module _ (s : List ℕ) (c : Configuration) (ring : Part) (bytes : List ℕ) (is
       rw (kept-length, laid-word-beside highFirst s place bytes (wordPlace c p) apart)
 
   -- all four words
-  pub words-stay : interfaceIn (putBack s c ring bytes) c ≡ interfaceIn s c
+  words-stay : interfaceIn (putBack s c ring bytes) c ≡ interfaceIn s c
   unfolding interfaceIn
   words-stay = rw (word-stays H2bWrite, word-stays B2hRead, word-stays B2hWrite, word-stays H2bRead)
 
   -- the other ring
-  pub other-ring-stays : (other : Part) → isRing other ≡ true → (other ≡ ring → ⊥)
+  other-ring-stays : (other : Part) → isRing other ≡ true → (other ≡ ring → ⊥)
       → partOf (putBack s c ring bytes) c other ≡ partOf s c other
   unfolding partOf placeIn
   other-ring-stays other o e =
@@ -77,7 +77,7 @@ module _ (s : List ℕ) (c : Configuration) (ring : Part) (bytes : List ℕ) (is
       (⊎-elim (λ (h : _). inl (omega (arith, fits))) (λ (h : _). inr h) apart))
 
   -- and the ring itself has the bytes that came back
-  pub ring-is-back : partOf (putBack s c ring bytes) c ring ≡ bytes
+  ring-is-back : partOf (putBack s c ring bytes) c ring ≡ bytes
   unfolding partOf placeIn
   ring-is-back =
       let at = partPlace c ring .offset in
@@ -88,3 +88,6 @@ module _ (s : List ℕ) (c : Configuration) (ring : Part) (bytes : List ℕ) (is
       (ap (λ (l : List ℕ). take n (drop at l)) (laid-fits s at bytes (omega (arith, all, fits)))
       ∙ ap (take n) (drop-at (take at s) (bytes ++ rest) at (length-take-le at s (omega (arith, all))))
       ∙ take-at bytes rest n fits)
+
+  pub put-back : RingChanged s c ring bytes
+  put-back = record { descriptor = descriptor-stays; words = words-stay; other-ring = other-ring-stays; itself = ring-is-back }

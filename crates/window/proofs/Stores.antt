@@ -87,6 +87,11 @@ pub stored-refused : (s : List ℕ) (c : Configuration) (p : Pointer) (w : Word)
 unfolding stored
 stored-refused s c p w never = rw (ne-eqb (storeRefusal (length s) c p (w .pointer)) 0 never)
 
+pub pointer-refused : (s : List ℕ) (c : Configuration) (p : Pointer) (at : ℕ)
+    → (storeRefusal (length s) c p at ≡ 0 → ⊥) → storedPointer s c p at ≡ s
+unfolding storedPointer
+pointer-refused s c p at = stored-refused s c p (record { pointer = at; high = wordIn s c p .high; low = wordIn s c p .low })
+
 module _ (s : List ℕ) (c : Configuration) (p : Pointer) (w : Word) (good : storeRefusal (length s) c p (w .pointer) ≡ 0) where
   ok : allowed (length s) c ≡ true
   ok = store-facts (length s) c p (w .pointer) good .0

@@ -1,5 +1,6 @@
 -- What lies in a window by a configuration, which may be any: one that the window can't have is refused with 1.
 -- Assumes nothing.
+use mathlib.Core.Path.{_≡_}
 use Prim.Native.Nat.{ℕ, _+_}
 use mathlib.Core.Bool.{Bool, true, false, _&&_}
 use mathlib.Core.List.{List}
@@ -12,7 +13,7 @@ use Rattle.mmbi.specs.declared.word.Word.{Word}
 use Rattle.mmbi.specs.Interface.{flagsOf}
 use Rattle.mmbi.specs.Pointers.{pointerRight}
 use Rattle.mmbi.specs.Words.{wordOf, numberOf}
-use Rattle.descriptor.specs.Configuration.{partPlace, allowed}
+use Rattle.descriptor.specs.Configuration.{partPlace, isRing, allowed}
 use Rattle.descriptor.specs.declared.place.Place.{Place}
 use Rattle.descriptor.specs.declared.configuration.Configuration.{Configuration}
 use Rattle.descriptor.specs.declared.configuration.Part.{Part}
@@ -96,3 +97,10 @@ stored s c p w =
 -- the window after a pointer alone is stored: the flags are those that stood there
 unfoldable pub storedPointer : List ℕ → Configuration → Pointer → ℕ → List ℕ
 storedPointer s c p at = stored s c p (record { pointer = at; high = wordIn s c p .high; low = wordIn s c p .low })
+
+-- a ring with other bytes, and all else in the window as it was
+pub record RingChanged (s : List ℕ) (c : Configuration) (ring : Part) (bytes : List ℕ) : Type 0 where
+  pub descriptor : take 64 (putBack s c ring bytes) ≡ take 64 s
+  pub words : interfaceIn (putBack s c ring bytes) c ≡ interfaceIn s c
+  pub other-ring : (other : Part) → isRing other ≡ true → (other ≡ ring → ⊥) → partOf (putBack s c ring bytes) c other ≡ partOf s c other
+  pub itself : partOf (putBack s c ring bytes) c ring ≡ bytes
