@@ -4,5 +4,7 @@ pub mod Arrivals
 pub mod CutRings
 pub mod Demands
 pub mod Checked
+pub mod Steps
 pub mod Useless
 pub mod Determined
+pub mod Examples

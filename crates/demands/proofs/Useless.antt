@@ -3,27 +3,21 @@
 -- Assumes nothing.
 use mathlib.Core.Path.{_≡_, refl, ap, sym, _∙_}
 use mathlib.Core.Bool.{Bool, true, false, false≢true}
-use mathlib.Core.List.{List, [], _∷_, _++_}
-use Prim.Native.Nat.{ℕ, zero, suc}
+use mathlib.Core.List.{List, [], _∷_}
+use Prim.Native.Nat.{ℕ}
 use native.Mathlib.Omega.{arith}
-use lib.Dec.{lit<, lit≤}
-use lib.ListN.{length, getD, replicate}
-use Rattle.octets.specs.Bytes.{Below, laid}
+use lib.Dec.{lit≤}
+use lib.ListN.{getD, replicate}
 use Rattle.mctp.specs.Packet.{startOf}
-use Rattle.mctp.specs.Key.{keyOf, headerOf, sameKey}
+use Rattle.pec.proofs.Tests.{all-bytes}
 use Rattle.smbus.proofs.Literal.{literalFrame, literalPacket}
 use Rattle.pcc.specs.Region.{regionFor}
 use Rattle.mmbi.specs.declared.interface.Flags.{Flags}
-use Rattle.mmbi.specs.Interface.{flagsOf, stateOf, mayRead}
+use Rattle.mmbi.specs.Interface.{flagsOf}
 use Rattle.ring.specs.Packet.{wholeFor}
 use Rattle.ring.specs.Runs.{arrivalRing}
 use Rattle.slots.specs.declared.state.Receiver.{Receiver}
-use Rattle.slots.specs.declared.state.SlotState.the-variants.{Free, Gathering}
-use Rattle.slots.specs.Slots.{slotAt, isFree, firstOf, slotOf, lowestFree}
-use Rattle.slots.specs.State.{multiple, rightNumbers, rightSlot, clash, rightState}
-use Rattle.decision.specs.Checks.{setupRefusal, packetRefusal, sourceRefusal}
-use Rattle.decision.specs.Rules.{after, onStart, gathered, onFollow, ruled}
-use Rattle.decision.specs.Decision.{fromSource, fromPacket, decided}
+use Rattle.slots.specs.Slots.{slotAt, isFree}
 use Rattle.receiver.specs.Step as rules
 use Rattle.rack.specs.declared.answer.Known.{Known}
 use Rattle.rack.specs.Arrivals.{Arrival, bySmbus, byPcc, byRing, Carried, Without, packet, carries}
@@ -33,55 +27,11 @@ use Rattle.transcript.specs.Frame.{start, oneMore, withPacket, frameOf}
 use Rattle.transcript.specs.Transcript as transcript
 use Rattle.demands.specs.Presenting.{arrival}
 use Rattle.demands.specs.Numbers.{card, empty, packetWith}
-use Rattle.demands.proofs.Arrivals.{every-region, every-ring}
+use Rattle.demands.proofs.Arrivals.{every-region, every-ring-base}
 use Rattle.demands.proofs.Checked.{literal-carried}
+use Rattle.demands.proofs.Steps.{gathering, steps}
 
 -- facts by computation that the shut-outs rest on
-small : Below 256 literalPacket
-small zero = lit< tt
-small (suc zero) = lit< tt
-small (suc (suc zero)) = lit< tt
-small (suc (suc (suc zero))) = lit< tt
-small (suc (suc (suc (suc zero)))) = lit< tt
-small (suc (suc (suc (suc (suc i))))) = lit< tt
-
-running : mayRead (stateOf (flagsOf true false true false)) ≡ true
-unfolding stateOf
-running = refl
-
--- a receiver that has taken a start of one byte
-abbrev gathering : Receiver
-gathering =
-    record {
-      setup = record { own = record { 0 = 9 } };
-      slots =
-          record { state = Gathering (record { destination = record { 0 = 9 }; source = record { 0 = 10 }; owner = false; tag = 0 }) 0 1 1 }
-          ∷ record { state = Free }
-          ∷ record { state = Free }
-          ∷ record { state = Free }
-          ∷ [];
-    }
-
-first-taken : isFree (slotAt (rules.stepOf 64 card empty (packetWith 0x80 1 7) .receiver .slots) 0) ≡ false
-unfolding rules.stepOf decided fromPacket fromSource setupRefusal packetRefusal sourceRefusal ruled onStart onFollow gathered after slotOf lowestFree firstOf headerOf keyOf sameKey rightState rightSlot rightNumbers multiple clash laid
-first-taken = refl
-
-first-laid : getD (rules.stepOf 64 card empty (packetWith 0x80 1 7) .memory) 0 0 ≡ 7
-unfolding rules.stepOf decided fromPacket fromSource setupRefusal packetRefusal sourceRefusal ruled onStart onFollow gathered after slotOf lowestFree firstOf headerOf keyOf sameKey rightState rightSlot rightNumbers multiple clash laid
-first-laid = refl
-
-second-laid : getD (rules.stepOf 64 gathering empty (packetWith 0x50 1 7) .memory) 1 0 ≡ 7
-unfolding rules.stepOf decided fromPacket fromSource setupRefusal packetRefusal sourceRefusal ruled onStart onFollow gathered after slotOf lowestFree firstOf headerOf keyOf sameKey rightState rightSlot rightNumbers multiple clash laid
-second-laid = refl
-
-held-one : rules.stepOf 64 card empty (packetWith 0x80 1 7) .said ≡ rules.held 0 1 false
-unfolding rules.stepOf decided fromPacket fromSource setupRefusal packetRefusal sourceRefusal ruled onStart onFollow gathered after slotOf lowestFree firstOf headerOf keyOf sameKey rightState rightSlot rightNumbers multiple clash laid
-held-one = refl
-
-held-two : rules.stepOf 64 card empty (packetWith 0x80 2 7) .said ≡ rules.held 0 2 false
-unfolding rules.stepOf decided fromPacket fromSource setupRefusal packetRefusal sourceRefusal ruled onStart onFollow gathered after slotOf lowestFree firstOf headerOf keyOf sameKey rightState rightSlot rightNumbers multiple clash laid
-held-two = refl
-
 none-counted : transcript.run start empty [] .state .packets ≡ 0
 unfolding transcript.run
 none-counted = refl
@@ -110,14 +60,16 @@ module _ (build : Receiver → List ℕ → Arrival → Left) (meets : (r : Rece
 
   pub refuses-every-region : ((region : List ℕ) (id : ℕ) → Refuses (byPcc region id)) → ⊥
   refuses-every-region all =
-      refuser (byPcc (regionFor 3 true literalPacket) 3) literalPacket _ (every-region literalPacket 3 true small refl (lit≤ tt) .1) (all (regionFor 3 true literalPacket) 3)
+      refuser (byPcc (regionFor 3 true literalPacket) 3) literalPacket _
+      (every-region literalPacket 3 true (all-bytes literalPacket tt) refl (lit≤ tt) .1) (all (regionFor 3 true literalPacket) 3)
 
   pub refuses-every-ring : ((ring : List ℕ) (configured : ℕ) (flags : Flags) (read write : ℕ) (out : List ℕ) → Refuses (byRing ring configured flags read write out)) → ⊥
   refuses-every-ring all =
       let ring = arrivalRing 128 literalPacket in
       let flags = flagsOf true false true false in
       let out = replicate {A = ℕ} 68 0 in
-      refuser (byRing ring 128 flags 0 (wholeFor 5) out) literalPacket _ (every-ring literalPacket 128 flags out small refl refl running (lit≤ tt) .1) (all ring 128 flags 0 (wholeFor 5) out)
+      refuser (byRing ring 128 flags 0 (wholeFor 5) out) literalPacket _
+      (every-ring-base literalPacket (all-bytes literalPacket tt) refl .1) (all ring 128 flags 0 (wholeFor 5) out)
 
 -- A build of the call that gives a packet to the message rules.
 module _ (build : Receiver → List ℕ → List ℕ → rules.Left) (meets : (r : Receiver) (m p : List ℕ) → build r m p ≡ rules.stepOf 64 r m p) where
@@ -126,7 +78,7 @@ module _ (build : Receiver → List ℕ → List ℕ → rules.Left) (meets : (r
 
   -- a start of one byte, to a receiver just set up
   begun : build card empty (packetWith 0x80 1 7) .said ≡ rules.held 0 1 false
-  begun = said card empty (packetWith 0x80 1 7) (rules.held 0 1 false) held-one
+  begun = said card empty (packetWith 0x80 1 7) (rules.held 0 1 false) (steps .held-one)
 
   -- "One that answers "done, slot 0" to all is shut out by 2's message rules.": a start without end is held
   pub done-to-all : ((r : Receiver) (m p : List ℕ) → (n : ℕ) × (again : Bool) × (build r m p .said ≡ rules.done 0 n again)) → ⊥
@@ -148,14 +100,14 @@ module _ (build : Receiver → List ℕ → List ℕ → rules.Left) (meets : (r
   pub leaves-the-slots : ((r : Receiver) (m p : List ℕ) → build r m p .receiver ≡ r) → ⊥
   leaves-the-slots all =
       false≢true
-      (sym first-taken
+      (sym (steps .first-taken)
       ∙ ap (λ (l : rules.Left). isFree (slotAt (l .receiver .slots) 0)) (sym (meets card empty (packetWith 0x80 1 7)))
       ∙ ap (λ (r : Receiver). isFree (slotAt (r .slots) 0)) (all card empty (packetWith 0x80 1 7)))
 
   pub leaves-the-memory : ((r : Receiver) (m p : List ℕ) → build r m p .memory ≡ m) → ⊥
   leaves-the-memory all =
       let seven : _≡_ {A = ℕ} 7 0 =
-      sym first-laid
+      sym (steps .first-laid)
       ∙ ap (λ (l : rules.Left). getD (l .memory) 0 0) (sym (meets card empty (packetWith 0x80 1 7)))
       ∙ ap (λ (m : List ℕ). getD m 0 0) (all card empty (packetWith 0x80 1 7)) in
       omega arith
@@ -164,7 +116,7 @@ module _ (build : Receiver → List ℕ → List ℕ → rules.Left) (meets : (r
   pub pretends-after-the-first : ((r : Receiver) (m p : List ℕ) → startOf p ≡ false → build r m p .memory ≡ m) → ⊥
   pretends-after-the-first all =
       let seven : _≡_ {A = ℕ} 7 0 =
-      sym second-laid
+      sym (steps .second-laid)
       ∙ ap (λ (l : rules.Left). getD (l .memory) 1 0) (sym (meets gathering empty (packetWith 0x50 1 7)))
       ∙ ap (λ (m : List ℕ). getD m 1 0) (all gathering empty (packetWith 0x50 1 7) refl) in
       omega arith
@@ -173,7 +125,7 @@ module _ (build : Receiver → List ℕ → List ℕ → rules.Left) (meets : (r
   pub one-held-count : (n : ℕ) → ((r : Receiver) (m p : List ℕ) (slot bytes : ℕ) (again : Bool) → build r m p .said ≡ rules.held slot bytes again → bytes ≡ n) → ⊥
   one-held-count n all =
       let one = all card empty (packetWith 0x80 1 7) 0 1 false begun in
-      let two = all card empty (packetWith 0x80 2 7) 0 2 false (said card empty (packetWith 0x80 2 7) (rules.held 0 2 false) held-two) in
+      let two = all card empty (packetWith 0x80 2 7) 0 2 false (said card empty (packetWith 0x80 2 7) (rules.held 0 2 false) (steps .held-two)) in
       omega arith
 
 -- ".. or packet count fails since .. packets is counted by 2's layouts.": a build is the state that the transcript's calls leave after some frames

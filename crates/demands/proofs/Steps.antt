@@ -1,0 +1,100 @@
+-- What the message rules make of a few packets, by computation: the facts that Useless and Examples rest on.
+-- Assumes nothing.
+use mathlib.Core.Path.{_≡_, refl}
+use mathlib.Core.Bool.{true, false}
+use mathlib.Core.List.{List, [], _∷_}
+use mathlib.Core.Logic.{inl, inr}
+use Prim.Native.Nat.{ℕ}
+use native.Mathlib.Omega.{arith}
+use lib.Dec.{lit<, lit≤}
+use lib.ListN.{getD}
+use Rattle.octets.specs.Bytes.{laid}
+use Rattle.mctp.specs.Key.{keyOf, headerOf, sameKey}
+use Rattle.smbus.proofs.Literal.{literalPacket}
+use Rattle.slots.specs.declared.state.Receiver.{Receiver}
+use Rattle.slots.specs.declared.state.SlotState.the-variants.{Free, Gathering}
+use Rattle.slots.specs.Slots.{slotAt, isFree, firstOf, slotOf, lowestFree}
+use Rattle.slots.specs.State.{multiple, rightNumbers, rightSlot, clash, rightState}
+use Rattle.slots.specs.Changes.{fresh, freedOf}
+use Rattle.decision.specs.Checks.{setupRefusal, packetRefusal, sourceRefusal}
+use Rattle.decision.specs.Rules.{after, onStart, gathered, onFollow, ruled}
+use Rattle.decision.specs.Decision.{fromSource, fromPacket, decided}
+use Rattle.receiver.specs.Step.{refused, held, stepOf}
+use Rattle.messages.specs.Run.{give, free}
+use Rattle.messages.specs.Message.{Item, part, between, Starts, Middles, Train, slotFor}
+use Rattle.demands.specs.Numbers.{card, empty, packetWith}
+
+-- a receiver with another EID
+abbrev pub stranger : Receiver
+stranger = fresh (record { own = record { 0 = 8 } })
+
+-- a receiver that has taken a start of one byte
+abbrev pub gathering : Receiver
+gathering =
+    record {
+      setup = record { own = record { 0 = 9 } };
+      slots =
+          record { state = Gathering (record { destination = record { 0 = 9 }; source = record { 0 = 10 }; owner = false; tag = 0 }) 0 1 1 }
+          ∷ record { state = Free }
+          ∷ record { state = Free }
+          ∷ record { state = Free }
+          ∷ [];
+    }
+
+-- document 01's message of 130, with a packet of another key, one that is refused and a slot freed between its packets
+abbrev pub middles : List Item
+middles =
+    between (give (packetWith 0x80 1 7))
+    ∷ part (packetWith 0x0D 64 2)
+    ∷ between (give [])
+    ∷ between (free 3)
+    ∷ []
+
+pub record Steps : Type 0 where
+  pub first-taken : isFree (slotAt (stepOf 64 card empty (packetWith 0x80 1 7) .receiver .slots) 0) ≡ false
+  pub first-laid : getD (stepOf 64 card empty (packetWith 0x80 1 7) .memory) 0 0 ≡ 7
+  pub second-laid : getD (stepOf 64 gathering empty (packetWith 0x50 1 7) .memory) 1 0 ≡ 7
+  pub held-one : stepOf 64 card empty (packetWith 0x80 1 7) .said ≡ held 0 1 false
+  pub held-two : stepOf 64 card empty (packetWith 0x80 2 7) .said ≡ held 0 2 false
+  pub not-ours : stepOf 64 stranger empty literalPacket .said ≡ refused 16
+  pub not-next : stepOf 64 gathering empty (packetWith 0x00 1 7) .said ≡ refused 20
+  pub one-packet : Starts 64 (card .setup) literalPacket
+  pub room : slotFor (card .slots) (keyOf literalPacket) ≡ 0
+  pub right : rightState 64 card ≡ true
+  pub no-slot : freedOf 64 card 4 .number ≡ 1
+  pub train : Train 64 card empty (packetWith 0xBD 64 1) middles (packetWith 0x5D 2 3)
+
+pub steps : Steps
+unfolding stepOf decided fromPacket fromSource setupRefusal packetRefusal sourceRefusal ruled onStart onFollow gathered after slotOf lowestFree firstOf headerOf keyOf sameKey rightState rightSlot rightNumbers multiple clash laid freedOf slotFor Middles
+steps =
+    record {
+      first-taken = refl;
+      first-laid = refl;
+      second-laid = refl;
+      held-one = refl;
+      held-two = refl;
+      not-ours = refl;
+      not-next = refl;
+      one-packet = record { checked = refl; source = refl; start = refl };
+      room = refl;
+      right = refl;
+      no-slot = refl;
+      train =
+          record {
+            state = refl;
+            memory = refl;
+            room = lit< tt;
+            starts = record { checked = refl; source = refl; start = refl };
+            more = refl;
+            middles = (
+              inl refl,
+              (
+                record { checked = refl; source = refl; not-start = refl; key = refl; sequence = refl; size = refl; room = lit≤ tt },
+                refl,
+                (inr (3, lit≤ tt, refl), ((λ (e : _≡_ {A = ℕ} 3 0). omega arith), tt)),
+              ),
+            );
+            follows = record { checked = refl; source = refl; not-start = refl; key = refl; sequence = refl; size = refl; room = lit≤ tt };
+            ends = refl;
+          };
+    }
