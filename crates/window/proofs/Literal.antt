@@ -1,16 +1,21 @@
 -- The words of a window worked out by hand from Tables 3 and 4 of 003, since reader and writer could be wrong alike.
 -- Assumes nothing.
 use mathlib.Core.Path.{_≡_, refl}
-use mathlib.Core.Bool.{true, false}
-use mathlib.Core.List.{[], _∷_, _++_}
-use lib.ListN.{replicate}
+use mathlib.Core.Bool.{Bool, true, false}
+use mathlib.Core.List.{List, [], _∷_, _++_, map}
+use Prim.Native.Nat.{ℕ}
+use lib.ListN.{take, drop, replicate}
 use Rattle.octets.specs.Bytes.{laid}
 use Rattle.octets.specs.Words.{wordAt, wordBytes}
+use Rattle.mmbi.specs.declared.word.Word.{Word}
 use Rattle.mmbi.specs.Interface.{flagsOf}
 use Rattle.mmbi.specs.Words.{wordOf, numberOf}
+use Rattle.descriptor.specs.declared.configuration.Configuration.{Configuration}
 use Rattle.descriptor.specs.Configuration.{inside, clear, ringRight, allowed}
 use Rattle.descriptor.proofs.Literal.{descriptorImage, rosImage, windowImage, imageConfiguration}
-use Rattle.window.specs.declared.word.Pointer.the-variants.{H2bWrite}
+use Rattle.window.specs.declared.word.Pointer.{Pointer}
+use Rattle.window.specs.declared.word.Pointer.the-variants.{H2bWrite, B2hRead, B2hWrite, H2bRead}
+use Rattle.window.specs.declared.word.Interface.{Interface}
 use Rattle.window.specs.Window.{cleared, wordIn, interfaceIn, storeRefusal, stored, storedPointer}
 
 -- both words of Host_RWS and of Host_ROS
@@ -26,16 +31,109 @@ pub image-words :
 unfolding interfaceIn wordIn cleared wordOf allowed inside clear ringRight wordAt
 image-words = refl
 
--- a flag of each kind: 23 in hex is pointer 32 with H_UP and H_RST, 21 with H_RST alone
-pub word-both : wordOf 35 ≡ record { pointer = 32; high = true; low = true }
-unfolding wordOf
-word-both = refl
-
-pub word-reset : wordOf 33 ≡ record { pointer = 32; high = false; low = true }
-unfolding wordOf
-word-reset = refl
-
 -- H2B_WP moved on to 36: H_UP stays (00 00 00 26)
 pub image-stored : storedPointer windowImage imageConfiguration H2bWrite 36 ≡ descriptorImage ++ (rosImage ++ (0 ∷ 0 ∷ 0 ∷ 38 ∷ 0 ∷ 0 ∷ 0 ∷ 5 ∷ []) ++ replicate 260 0)
 unfolding storedPointer stored storeRefusal wordIn cleared wordOf numberOf allowed inside clear ringRight wordAt wordBytes laid
 image-stored = refl
+
+-- The window with other words: of Host_ROS B2H_WP and H2B_RP, of Host_RWS H2B_WP and B2H_RP
+abbrev withWords : List ℕ → List ℕ → List ℕ → List ℕ → List ℕ
+withWords b2hWrite h2bRead h2bWrite b2hRead = descriptorImage ++ (b2hWrite ++ (h2bRead ++ (h2bWrite ++ (b2hRead ++ replicate 260 0))))
+
+abbrev low : ℕ → List ℕ
+low n = 0 ∷ 0 ∷ 0 ∷ n ∷ []
+
+-- what a look gives where these bits are set and every pointer is 0
+abbrev flagged : Bool → Bool → Bool → Bool → Bool → Bool → Interface
+flagged bUp bRst hUp hRst hRdy bRdy =
+    record {
+      flags = flagsOf bUp bRst hUp hRst;
+      b2h = record { read = 0; write = 0 };
+      h2b = record { read = 0; write = 0 };
+      «host_ready» = hRdy;
+      «controller_ready» = bRdy;
+    }
+
+-- each flag alone: B_UP, B_RST, B_RDY, H_UP, H_RST, H_RDY; then the two reserved bits, which say nothing
+pub each-flag :
+    map (λ (s : List ℕ). interfaceIn s imageConfiguration)
+    (withWords (low 2) (low 0) (low 0) (low 0)
+    ∷ withWords (low 1) (low 0) (low 0) (low 0)
+    ∷ withWords (low 0) (low 1) (low 0) (low 0)
+    ∷ withWords (low 0) (low 0) (low 2) (low 0)
+    ∷ withWords (low 0) (low 0) (low 1) (low 0)
+    ∷ withWords (low 0) (low 0) (low 0) (low 1)
+    ∷ withWords (low 0) (low 2) (low 0) (low 2)
+    ∷ [])
+    ≡ flagged true false false false false false
+    ∷ flagged false true false false false false
+    ∷ flagged false false false false false true
+    ∷ flagged false false true false false false
+    ∷ flagged false false false true false false
+    ∷ flagged false false false false true false
+    ∷ flagged false false false false false false
+    ∷ []
+unfolding interfaceIn wordIn cleared wordOf allowed inside clear ringRight wordAt
+each-flag = refl
+
+-- pointers of four bytes, no two alike: 01020304, 05060708, 090A0B0C, 0D0E0F10
+pub four-pointers :
+    interfaceIn (withWords (1 ∷ 2 ∷ 3 ∷ 4 ∷ []) (5 ∷ 6 ∷ 7 ∷ 8 ∷ []) (9 ∷ 10 ∷ 11 ∷ 12 ∷ []) (13 ∷ 14 ∷ 15 ∷ 16 ∷ [])) imageConfiguration
+    ≡ record {
+      flags = flagsOf false false false false;
+      b2h = record { read = 219025168; write = 16909060 };
+      h2b = record { read = 84281096; write = 151653132 };
+      «host_ready» = false;
+      «controller_ready» = false;
+    }
+unfolding interfaceIn wordIn cleared wordOf allowed inside clear ringRight wordAt
+four-pointers = refl
+
+-- a window of bytes EE with room for larger pointers: Host_ROS at 64, Host_RWS at 72, B2H of 1,024 bytes, H2B of 2,048
+abbrev wide : Configuration
+wide = record { b2h = record { offset = 80; length = 1024 }; h2b = record { offset = 1104; length = 2048 }; ros = 64; rws = 72 }
+
+abbrev bare : List ℕ
+bare = replicate 3152 238
+
+-- the two structures once a word is stored
+abbrev structures : Pointer → Word → List ℕ
+structures p w = take 16 (drop 64 (stored bare wide p w))
+
+abbrev kept : ℕ → List ℕ
+kept n = replicate n 238
+
+-- pointer 772 (0304) with each flag alone, in each word: bit 1 beside a read pointer is reserved, so 0
+pub each-store :
+    map (λ (w : Word). structures B2hWrite w ++ structures H2bRead w ++ structures H2bWrite w ++ structures B2hRead w)
+    (record { pointer = 772; high = true; low = false } ∷ record { pointer = 772; high = false; low = true } ∷ [])
+    ≡ ((0 ∷ 0 ∷ 3 ∷ 6 ∷ kept 12) ++ (kept 4 ++ (0 ∷ 0 ∷ 3 ∷ 4 ∷ kept 8)) ++ (kept 8 ++ (0 ∷ 0 ∷ 3 ∷ 6 ∷ kept 4)) ++ (kept 12 ++ (0 ∷ 0 ∷ 3 ∷ 4 ∷ [])))
+    ∷ ((0 ∷ 0 ∷ 3 ∷ 5 ∷ kept 12) ++ (kept 4 ++ (0 ∷ 0 ∷ 3 ∷ 5 ∷ kept 8)) ++ (kept 8 ++ (0 ∷ 0 ∷ 3 ∷ 5 ∷ kept 4)) ++ (kept 12 ++ (0 ∷ 0 ∷ 3 ∷ 5 ∷ [])))
+    ∷ []
+unfolding stored storeRefusal cleared numberOf allowed inside clear ringRight wordBytes laid
+each-store = refl
+
+-- 12 at each ring's own length, by the words in the order of Host_RWS and Host_ROS, and for what is no multiple of 4
+abbrev answers : ℕ → List ℕ
+answers at = map (λ (p : Pointer). storeRefusal 3152 wide p at) (H2bWrite ∷ B2hRead ∷ B2hWrite ∷ H2bRead ∷ [])
+
+pub each-limit :
+    map answers (1020 ∷ 1022 ∷ 1024 ∷ 2044 ∷ 2048 ∷ [])
+    ≡ (0 ∷ 0 ∷ 0 ∷ 0 ∷ [])
+    ∷ (12 ∷ 12 ∷ 12 ∷ 12 ∷ [])
+    ∷ (0 ∷ 12 ∷ 12 ∷ 0 ∷ [])
+    ∷ (0 ∷ 12 ∷ 12 ∷ 0 ∷ [])
+    ∷ (12 ∷ 12 ∷ 12 ∷ 12 ∷ [])
+    ∷ []
+unfolding storeRefusal allowed inside clear ringRight
+each-limit = refl
+
+-- 1 comes before 12: a window one byte too short, and a pointer that no ring has
+pub setup-first : storeRefusal 3151 wide H2bWrite 2 ≡ 1
+unfolding storeRefusal allowed inside clear ringRight
+setup-first = refl
+
+-- B2H_RP moved on to 8 where its word is 00 00 00 07: H_RDY stays, the reserved bit doesn't
+pub reserved-cleared : take 16 (drop 64 (storedPointer (withWords (low 0) (low 0) (low 0) (low 7)) imageConfiguration B2hRead 8)) ≡ replicate 15 0 ++ (9 ∷ [])
+unfolding storedPointer stored storeRefusal wordIn cleared wordOf numberOf allowed inside clear ringRight wordAt wordBytes laid
+reserved-cleared = refl
