@@ -29,7 +29,7 @@ cut-ring-right window c part is e =
 
 -- the window once a ring that was lent out of it, and written to, is back
 module _ (window : List ℕ) (c : Configuration) (part : Part) (is : isRing part ≡ true) (e : outcomeOf window ≡ found c)
-  (configured : ℕ) (running : Bool) (read write : ℕ) (p : List ℕ) where
+    (configured : ℕ) (running : Bool) (read write : ℕ) (p : List ℕ) where
   abbrev ring : List ℕ
   ring = putting.writeOf 64 (partOf window c part) configured running read write p .ring
 

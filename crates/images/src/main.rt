@@ -5,6 +5,7 @@ mod regions;
 mod rings;
 mod text;
 mod windows;
+mod words;
 
 use descriptors::FAR;
 
@@ -40,7 +41,7 @@ ring bytes 0 to 3:\xB4
 ring read with read 120, write 4: \xB5
 ";
 
-const WINDOW: [u8; 1037] = *b"
+const WINDOW: [u8; 1134] = *b"
 MMBI descriptor
 descriptor bytes 0 to 39:\xC0
 descriptor in a window of 512 bytes: \xC1
@@ -51,6 +52,7 @@ descriptor Host_RWS: \xD3
 descriptor in a window of 63 bytes: \xC2
 descriptor in a window of 511 bytes, which cuts the second ring: \xC3
 descriptor in a window of 65536 bytes: \xC4
+descriptor with the ring to the host of 131200 bytes, 00 02 00 80, in a window of 65536 bytes: \xC9
 descriptor with the ring to the host at base 536870911, length 65536, in a window of 512 bytes: \xC5
 descriptor with the ring to the host at base 536870911, length 65536, in a window of 65536 bytes: \xC6
 descriptor with the ring to the controller at base 536870911, length 65536, in a window of 512 bytes: \xC7
@@ -62,12 +64,35 @@ words B2H write pointer 20, controller up, and H2B read pointer 0, controller re
 words read back: \xE2, B2H read \xE3 write \xE4, H2B read \xE5 write \xE6\xE7\xE8
 ";
 
+const WORDS: [u8; 632] = *b"
+MMBI words one bit at a time
+bit 1 of H2B_WP's word:\xF0
+bit 0 of H2B_WP's word:\xF1
+bit 1 of B2H_RP's word is reserved, and sets nothing:\xF2
+bit 0 of B2H_RP's word:\xF3
+bit 1 of B2H_WP's word:\xF4
+bit 0 of B2H_WP's word:\xF5
+bit 1 of H2B_RP's word is reserved, and sets nothing:\xF6
+bit 0 of H2B_RP's word:\xF7
+bytes 01 to 10 in Host_ROS and Host_RWS: \xF8
+
+MMBI words stored with both bits set, and Host_ROS and Host_RWS then
+H2B write pointer 252: \xF9
+B2H read pointer 124: \xFA
+B2H write pointer 124: \xFB
+H2B read pointer 252: \xFC
+H2B write pointer 254, no multiple of 4: \xFD
+H2B write pointer 256, the ring's length: \xFE
+B2H write pointer 128, the ring's length: \xFF
+";
+
 // The packet in the images: to EID 9 from EID 10, start and end set, with one byte of body.
 const ORDER: [u8; 5] = [0x01, 0x09, 0x0A, 0xC8, 0x00];
 
 fn main() {
     show_packets();
     show_window();
+    show_words();
 }
 
 fn show_packets() {
@@ -77,6 +102,11 @@ fn show_packets() {
 
 fn show_window() {
     let page = WINDOW;
+    show_page(&page);
+}
+
+fn show_words() {
+    let page = WORDS;
     show_page(&page);
 }
 
@@ -100,8 +130,10 @@ fn show_image(place: u8) {
         show_packet(place);
     } else if place < 0xD0 {
         show_descriptor(place);
-    } else {
+    } else if place < 0xF0 {
         windows::show(place);
+    } else {
+        words::show(place);
     }
 }
 
@@ -144,6 +176,7 @@ fn show_descriptor(place: u8) {
         0xC5 => descriptors::read(8, FAR, 65536, 512),
         0xC6 => descriptors::read(8, FAR, 65536, 65536),
         0xC7 => descriptors::read(12, FAR, 65536, 512),
+        0xC9 => descriptors::read(8, 16, 131200, 65536),
         _ => descriptors::read(12, FAR, 65536, 65536),
     }
 }

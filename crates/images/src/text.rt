@@ -36,6 +36,12 @@ pub fn put(words: &[u8]) {
     }
 }
 
+pub fn put_if(flag: bool, words: &[u8]) {
+    if flag {
+        put(words);
+    }
+}
+
 // As many bytes as asked for, from the first on; all where there are fewer.
 pub fn first(bytes: &[u8], size: usize) -> &[u8] {
     if bytes.len() <= size {

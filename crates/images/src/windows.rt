@@ -60,8 +60,8 @@ fn tell(seen: Interface, place: u8) {
         0xE4 => text::show_number(seen.b2h.write),
         0xE5 => text::show_number(seen.h2b.read),
         0xE6 => text::show_number(seen.h2b.write),
-        0xE7 => tell_if(seen.host_ready, b", host ready"),
-        _ => tell_if(seen.controller_ready, b", controller ready"),
+        0xE7 => text::put_if(seen.host_ready, b", host ready"),
+        _ => text::put_if(seen.controller_ready, b", controller ready"),
     }
 }
 
@@ -69,11 +69,5 @@ fn tell_state(state: InterfaceState) {
     match state {
         InterfaceState::NormalRuntime => text::put(b"normal runtime"),
         _ => text::put(b"not in normal runtime"),
-    }
-}
-
-fn tell_if(flag: bool, words: &[u8]) {
-    if flag {
-        text::put(words);
     }
 }

@@ -1,6 +1,7 @@
 // Document 01's numbers, run on the proved calls and told in words.
 mod answers;
 mod frames;
+mod headers;
 mod keys;
 mod messages;
 mod packets;
@@ -10,7 +11,7 @@ mod states;
 mod text;
 
 // What was tried, line by line, and a mark for what came of it: a byte of 0x80 or more.
-const PAGE: [u8; 985] = *b"SMBus
+const PAGE: [u8; 1237] = *b"SMBus
 smbus frame of 9 bytes: \x80
 smbus frame of 10 bytes: \x81
 smbus frame of 73 bytes: \x82
@@ -33,6 +34,21 @@ flags 1010: \xA2
 flags 1011: \xA3
 flags 1110: \xA4
 flags 1111: \xA5
+
+Headers and EIDs
+header F1 09 0A BD: \xF0
+own EID 0: \xF1
+own EID 1: \xF2
+own EID 7: \xF3
+own EID 8: \xF4
+own EID 254: \xF5
+own EID 255: \xF6
+packet from EID 0: \xF7
+packet from EID 1: \xF8
+packet from EID 7: \xF9
+packet from EID 8: \xFA
+packet from EID 254: \xFB
+packet from EID 255: \xFC
 
 Messages at EID 9
 message of one packet 01 09 0A C8 00: \xB0
@@ -113,6 +129,25 @@ fn tell_trial(mark: u8) {
         0xD4 => keys::tell_freed(4),
         0xE0 => paths::tell_smbus(),
         0xE1 => paths::tell_pcc(),
-        _ => paths::tell_ring(),
+        0xE2 => paths::tell_ring(),
+        _ => tell_header(mark),
+    }
+}
+
+fn tell_header(mark: u8) {
+    match mark {
+        0xF1 => headers::tell_own(0),
+        0xF2 => headers::tell_own(1),
+        0xF3 => headers::tell_own(7),
+        0xF4 => headers::tell_own(8),
+        0xF5 => headers::tell_own(254),
+        0xF6 => headers::tell_own(255),
+        0xF7 => headers::tell_from(0),
+        0xF8 => headers::tell_from(1),
+        0xF9 => headers::tell_from(7),
+        0xFA => headers::tell_from(8),
+        0xFB => headers::tell_from(254),
+        0xFC => headers::tell_from(255),
+        _ => headers::tell_fields(),
     }
 }

@@ -56,7 +56,7 @@ held : (s : List ℕ) (n k : ℕ) → 4 + n + k < length s → length (take k (d
 held s n k h = simp (length-take, length-drop) (omega arith)
 
 module _ (most : ℕ) (ring : List ℕ) (configured : ℕ) (running : Bool) (read write output size next : ℕ)
-  (b : Below 256 ring) (e : takenOf most ring configured running read write output ≡ packet size next) where
+    (b : Below 256 ring) (e : takenOf most ring configured running read write output ≡ packet size next) where
   abbrev s : List ℕ
   s = turn read ring
 

@@ -38,7 +38,7 @@ rings-apart window c Ros other r o e a = absurd (false≢true r)
 rings-apart window c Rws other r o e a = absurd (false≢true r)
 
 module _ (s : List ℕ) (c : Configuration) (ring : Part) (bytes : List ℕ) (is : isRing ring ≡ true)
-  (ok : allowed (length s) c ≡ true) (fits : length bytes ≡ partPlace c ring .length) where
+    (ok : allowed (length s) c ≡ true) (fits : length bytes ≡ partPlace c ring .length) where
   facts : Allowed (length s) c
   facts = allowed-facts (length s) c ok
 

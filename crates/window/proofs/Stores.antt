@@ -147,10 +147,10 @@ unfolding wordIn
 store-keeps-others s c p w q h =
     stored-either s c p w (λ (l : List ℕ). wordIn l c q ≡ wordIn s c q) refl
     (λ (good : storeRefusal (length s) c p (w .pointer) ≡ 0).
-      let n = numberOf (cleared p w) in
-      let same : wordAt highFirst (stored s c p w) (wordPlace c q) ≡ wordAt highFirst s (wordPlace c q) =
-      rw (stored-laid s c p w good) (laid-word-beside highFirst s (wordPlace c p) (wordBytes highFirst n) (wordPlace c q) (rw (word-length highFirst n) h)) in
-      rw (stored-length s c p w, same))
+    let n = numberOf (cleared p w) in
+    let same : wordAt highFirst (stored s c p w) (wordPlace c q) ≡ wordAt highFirst s (wordPlace c q) =
+    rw (stored-laid s c p w good) (laid-word-beside highFirst s (wordPlace c p) (wordBytes highFirst n) (wordPlace c q) (rw (word-length highFirst n) h)) in
+    rw (stored-length s c p w, same))
 
 -- a ring is clear of both structures
 pub ring-clear : (window : ℕ) (c : Configuration) (ring : Part) → isRing ring ≡ true → Allowed window c → Clear c (partPlace c ring)
@@ -173,9 +173,9 @@ unfolding partOf placeIn
 store-keeps-rings s c p w ring r =
     stored-either s c p w (λ (l : List ℕ). partOf l c ring ≡ partOf s c ring) refl
     (λ (good : storeRefusal (length s) c p (w .pointer) ≡ 0).
-      let q = partPlace c ring in
-      let n = numberOf (cleared p w) in
-      let clear : Clear c q = ring-clear (length s) c ring r (allowed-facts (length s) c (ok s c p w good)) in
-      rw (stored-length s c p w, ok s c p w good)
-      (ap (λ (l : List ℕ). bytesAt l q) (stored-laid s c p w good)
-      ∙ laid-beside s (wordPlace c p) (wordBytes highFirst n) (q .offset) (q .length) (rw (word-length highFirst n) (beside c p ring clear))))
+    let q = partPlace c ring in
+    let n = numberOf (cleared p w) in
+    let clear : Clear c q = ring-clear (length s) c ring r (allowed-facts (length s) c (ok s c p w good)) in
+    rw (stored-length s c p w, ok s c p w good)
+    (ap (λ (l : List ℕ). bytesAt l q) (stored-laid s c p w good)
+    ∙ laid-beside s (wordPlace c p) (wordBytes highFirst n) (q .offset) (q .length) (rw (word-length highFirst n) (beside c p ring clear))))

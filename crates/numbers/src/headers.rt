@@ -1,0 +1,48 @@
+// The fields of a packet's header, and the EIDs that an endpoint can have.
+use crate::answers::tell_answer;
+use crate::packets::fresh;
+use crate::text::refused;
+use crate::text::say;
+use crate::text::tell;
+use mctp::Eid;
+use slots::Outcome;
+
+// The header F1 09 0A BD: its first four bits are reserved, BD is 1011 1101.
+pub fn tell_fields() {
+    let header = mctp::header_of(b"\xF1\x09\x0A\xBD");
+    let key = header.key;
+    tell(b"version ", header.version as usize);
+    tell_if(header.start, b", start");
+    tell_if(header.end, b", end");
+    tell(b", sequence ", header.sequence as usize);
+    tell(b", to ", key.destination.0 as usize);
+    tell(b", from ", key.source.0 as usize);
+    tell_if(key.owner, b", tag owner");
+    tell(b", tag ", key.tag as usize);
+}
+
+fn tell_if(flag: bool, words: &[u8]) {
+    if flag {
+        say(words);
+    }
+}
+
+// A receiver set up with this EID of its own.
+pub fn tell_own(eid: u8) {
+    let changed = slots::set_up(Eid(eid));
+    let outcome = changed.outcome;
+    match outcome {
+        Outcome::Good => say(b"good"),
+        Outcome::Refused(why) => refused(why),
+    }
+}
+
+// A packet from this EID.
+pub fn tell_from(eid: u8) {
+    let mut packet = crate::packets::ORDER;
+    packet[2] = eid;
+    let mut memory = [0u8; 4096];
+    let given = receiver::give(fresh(), &mut memory, &packet);
+    let answer = given.answer;
+    tell_answer(answer);
+}
