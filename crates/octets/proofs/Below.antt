@@ -1,7 +1,7 @@
 -- Lists of bytes made of lists of bytes.
 -- Assumes nothing.
 use mathlib.Core.List.{List, [], _∷_, _++_}
-use Prim.Native.Nat.{ℕ, zero, suc, _/_, _%_, _<_}
+use Prim.Native.Nat.{ℕ, zero, suc, _<_}
 use native.Mathlib.Omega.{arith}
 use lib.Dec.{lit<}
 use lib.ListN.{take, drop, replicate}
@@ -34,10 +34,16 @@ pub below-zeros : (n : ℕ) → Below 256 (replicate n 0)
 below-zeros zero = below-nil
 below-zeros (suc n) = below-cons 0 (replicate n 0) (lit< tt) (below-zeros n)
 
-four : (a b c d : ℕ) → a < 256 → b < 256 → c < 256 → d < 256 → Below 256 (a ∷ b ∷ c ∷ d ∷ [])
-four a b c d ha hb hc hd = below-cons a (b ∷ c ∷ d ∷ []) ha (below-cons b (c ∷ d ∷ []) hb (below-cons c (d ∷ []) hc (below-cons d [] hd below-nil)))
-
+-- in either byte order
 pub below-word : (o : Order) (w : ℕ) → Below 256 (wordBytes o w)
 unfolding wordBytes
-below-word lowFirst w = four (w % 256) (w / 256 % 256) (w / 65536 % 256) (w / 16777216 % 256) (omega arith) (omega arith) (omega arith) (omega arith)
-below-word highFirst w = four (w / 16777216 % 256) (w / 65536 % 256) (w / 256 % 256) (w % 256) (omega arith) (omega arith) (omega arith) (omega arith)
+below-word lowFirst w zero = omega arith
+below-word lowFirst w (suc zero) = omega arith
+below-word lowFirst w (suc (suc zero)) = omega arith
+below-word lowFirst w (suc (suc (suc zero))) = omega arith
+below-word lowFirst w (suc (suc (suc (suc i)))) = below-nil i
+below-word highFirst w zero = omega arith
+below-word highFirst w (suc zero) = omega arith
+below-word highFirst w (suc (suc zero)) = omega arith
+below-word highFirst w (suc (suc (suc zero))) = omega arith
+below-word highFirst w (suc (suc (suc (suc i)))) = below-nil i

@@ -25,7 +25,7 @@ same-length c = search needs
 
 returns : tie.Need-returns
 unfolding wordBytes
-returns c = c .before .before .lay-four .ensures
+returns c = rw (c .before .before .lay-four .ensures)
 
 pub lay-high-first-spec : {M : Type 1} → statement M
 lay-high-first-spec =
