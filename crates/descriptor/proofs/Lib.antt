@@ -5,4 +5,4 @@ pub mod Ignored
 pub mod Determined
 pub mod Literal
 pub mod Borders
-pub mod Given
+pub mod Stored

@@ -1,5 +1,5 @@
--- A configuration is allowed exactly if some descriptor gives it: what reading finds is allowed (`found-allowed`), and
--- for what is allowed there is a window whose descriptor gives it.
+-- A stored configuration is right exactly if some descriptor gives it: what reading finds is allowed (`found-allowed`),
+-- and for what is allowed there is a window whose descriptor gives it.
 -- Assumes nothing.
 use mathlib.Core.Path.{_≡_, refl, ap, _∙_}
 use mathlib.Core.Bool.{Bool, true, _&&_}
