@@ -5,24 +5,6 @@ use borrow.Author.Needs.{needs}
 use Rattle.octets.proofs.word.lay_high_first.Statement.{statement}
 use Rattle.octets.proofs.word.lay_high_first.Tie as tie
 
-cast-lay-four : tie.Need-cast-lay-four
-cast-lay-four c = search needs
-
-cast-lay-four-2 : tie.Need-cast-lay-four-2
-cast-lay-four-2 c = search needs
-
-cast-lay-four-3 : tie.Need-cast-lay-four-3
-cast-lay-four-3 c = search needs
-
-cast-lay-four-4 : tie.Need-cast-lay-four-4
-cast-lay-four-4 c = search needs
-
-lay-four-requires : tie.Need-lay-four-requires
-lay-four-requires c κs = search needs
-
-same-length : tie.Need-same-length
-same-length c = search needs
-
 returns : tie.Need-returns
 unfolding wordBytes
 returns c = rw (c .before .before .lay-four .ensures)
@@ -31,10 +13,10 @@ pub lay-high-first-spec : {M : Type 1} → statement M
 lay-high-first-spec =
     tie.close
     (tie.spec
-    cast-lay-four
-    cast-lay-four-2
-    cast-lay-four-3
-    cast-lay-four-4
-    lay-four-requires
-    same-length
+    (λ c. search needs)
+    (λ c. search needs)
+    (λ c. search needs)
+    (λ c. search needs)
+    (λ c κs. search needs)
+    (λ c. search needs)
     returns)
