@@ -106,8 +106,8 @@ pub length-65540 : outcomeOf (lengthened 0 1 0 4 ++ replicate 67540 0) ≡ refus
 unfolding outcomeOf refusalOf signatureRight configurationIn allowed inside clear ringRight wordAt
 length-65540 = refl
 
--- 131,200 (00 02 00 80) is not 128
-pub length-131200 : outcomeOf (lengthened 0 2 0 128 ++ replicate 133200 0) ≡ refused 10
+-- 131,200 (00 02 00 80) is not 128, which this window holds
+pub length-131200 : outcomeOf (lengthened 0 2 0 128 ++ replicate 2128 0) ≡ refused 10
 unfolding outcomeOf refusalOf signatureRight configurationIn allowed inside clear ringRight wordAt
 length-131200 = refl
 
