@@ -54,17 +54,17 @@ far-passes = lit≤ tt
 pub far-structure : liesIn (2 ^ 32) (structureAt 4294967288) ≡ true
 far-structure = refl
 
--- Another, with no two alike and every reserved bit set: version byte F1, byte 7 FE, bases with their high three bits
--- set, type byte A1, FF in bytes 25 to 31 and from 40 on. B2H at 8 · 0x102 = 2,064 with the length whose four bytes are
+-- Another, with no two places alike and every reserved bit set: version byte F1, byte 7 FE, the high three bits of each
+-- base, type byte F1, FF in bytes 25 to 31 and from 40 on. B2H at 8 · 0x102 = 2,064 with the length whose four bytes are
 -- given, H2B at 8 · 0x41 = 520 with 0x508 = 1,288 bytes, Host_ROS right behind it at 8 · 0xE2 = 1,808, Host_RWS right
 -- before B2H at 8 · 0x101 = 2,056.
 abbrev lengthened : ℕ → ℕ → ℕ → ℕ → List ℕ
 lengthened a b c d =
     35 ∷ 77 ∷ 77 ∷ 66 ∷ 73 ∷ 36 ∷ 0xF1 ∷ 0xFE
-    ∷ 0xE0 ∷ 0 ∷ 1 ∷ 2 ∷ 0xA0 ∷ 0 ∷ 0 ∷ 0x41
+    ∷ 0xE0 ∷ 0 ∷ 1 ∷ 2 ∷ 0xE0 ∷ 0 ∷ 0 ∷ 0x41
     ∷ a ∷ b ∷ c ∷ d ∷ 0 ∷ 0 ∷ 5 ∷ 8
-    ∷ 0xA1 ∷ 255 ∷ 255 ∷ 255 ∷ 255 ∷ 255 ∷ 255 ∷ 255
-    ∷ 0x80 ∷ 0 ∷ 0 ∷ 0xE2 ∷ 0x60 ∷ 0 ∷ 1 ∷ 1
+    ∷ 0xF1 ∷ 255 ∷ 255 ∷ 255 ∷ 255 ∷ 255 ∷ 255 ∷ 255
+    ∷ 0xE0 ∷ 0 ∷ 0 ∷ 0xE2 ∷ 0xE0 ∷ 0 ∷ 1 ∷ 1
     ∷ replicate 24 255
 
 abbrev given : ℕ → Configuration
@@ -106,7 +106,7 @@ pub length-65540 : outcomeOf (lengthened 0 1 0 4 ++ replicate 67540 0) ≡ refus
 unfolding outcomeOf refusalOf signatureRight configurationIn allowed inside clear ringRight wordAt
 length-65540 = refl
 
--- 131,200 (00 02 00 80) is not 128, which this window holds
+-- 131,200 (00 02 00 80) is refused where 128 is accepted
 pub length-131200 : outcomeOf (lengthened 0 2 0 128 ++ replicate 2128 0) ≡ refused 10
 unfolding outcomeOf refusalOf signatureRight configurationIn allowed inside clear ringRight wordAt
 length-131200 = refl
