@@ -1,5 +1,5 @@
--- Configurations in a window of 4,096 bytes that are right, and with one thing wrong each, since a definition and its code
--- could be wrong alike.
+-- Configurations in a window of 4,096 bytes that are right, and with one thing wrong each, since a definition and its
+-- code could be wrong alike.
 -- Assumes nothing.
 use mathlib.Core.Path.{_≡_, refl}
 use mathlib.Core.Bool.{true, false}
@@ -10,14 +10,21 @@ use Rattle.descriptor.specs.Configuration.{inside, clear, ringRight, all
 
 -- by its four bases: B2H with 260 bytes, H2B with 1,288, Host_ROS, Host_RWS
 abbrev based : ℕ → ℕ → ℕ → ℕ → Configuration
-based b h o w = record { b2h = record { offset = b; length = 260 }; h2b = record { offset = h; length = 1288 }; ros = o; rws = w }
+based b h o w =
+    record { b2h = record { offset = b; length = 260 }; h2b = record { offset = h; length = 1288 }; ros = o; rws = w }
 
 -- by the lengths of its two rings
 abbrev sized : ℕ → ℕ → Configuration
-sized m n = record { b2h = record { offset = 2064; length = m }; h2b = record { offset = 520; length = n }; ros = 1808; rws = 2056 }
+sized m n =
+    record {
+      b2h = record { offset = 2064; length = m };
+      h2b = record { offset = 520; length = n };
+      ros = 1808;
+      rws = 2056;
+    }
 
--- rings right behind the descriptor, a ring right behind the other, a ring at the last base that fits, structures at the window's
--- end, structures over each other and over the descriptor
+-- rings right behind the descriptor, a ring right behind the other, a ring at the last base that fits, structures at the
+-- window's end, structures over each other and over the descriptor
 pub right :
     map (allowed 4096)
     (based 64 520 1808 2056
@@ -33,7 +40,12 @@ right = refl
 
 -- "lie in the lent window": B2H, H2B, Host_ROS, Host_RWS past its end
 pub past-the-end :
-    map (allowed 4096) (based 3840 520 1808 2056 ∷ based 2064 2816 1808 2056 ∷ based 2064 520 4096 2056 ∷ based 2064 520 1808 4096 ∷ [])
+    map (allowed 4096)
+    (based 3840 520 1808 2056
+    ∷ based 2064 2816 1808 2056
+    ∷ based 2064 520 4096 2056
+    ∷ based 2064 520 1808 4096
+    ∷ [])
     ≡ false ∷ false ∷ false ∷ false ∷ []
 unfolding allowed inside clear ringRight
 past-the-end = refl
@@ -63,7 +75,12 @@ lengths = refl
 
 -- "bases in 8-byte units": each base 4 bytes further on
 pub off-units :
-    map (allowed 4096) (based 2068 520 1808 2056 ∷ based 2064 516 1808 2056 ∷ based 2064 520 1812 2056 ∷ based 2064 520 1808 2052 ∷ [])
+    map (allowed 4096)
+    (based 2068 520 1808 2056
+    ∷ based 2064 516 1808 2056
+    ∷ based 2064 520 1812 2056
+    ∷ based 2064 520 1808 2052
+    ∷ [])
     ≡ false ∷ false ∷ false ∷ false ∷ []
 unfolding allowed inside clear ringRight
 off-units = refl

@@ -53,7 +53,12 @@ units-facts c e =
     let t = both (b && h && o) (eqb (c .rws % 8) 0) e in
     let u = both (b && h) o (t .0) in
     let v = both b h (u .0) in
-    record { b2h = eqb-true _ _ (v .0); h2b = eqb-true _ _ (v .1); ros = eqb-true _ _ (u .1); rws = eqb-true _ _ (t .1) }
+    record {
+      b2h = eqb-true _ _ (v .0);
+      h2b = eqb-true _ _ (v .1);
+      ros = eqb-true _ _ (u .1);
+      rws = eqb-true _ _ (t .1);
+    }
 
 units-hold : (c : Configuration) → OnUnits c → onUnits c ≡ true
 units-hold c u = rw (u .b2h, u .h2b, u .ros, u .rws)
@@ -70,9 +75,11 @@ allowed-facts window c e =
     let h = liesIn window (c .h2b) in
     let o = liesIn window (structureAt (c .ros)) in
     let w = liesIn window (structureAt (c .rws)) in
-    let t0 = both (inside window c && rings && one && other && ringRight (c .b2h) && ringRight (c .h2b)) (onUnits c) e in
-    let t1 = both (inside window c && rings && one && other && ringRight (c .b2h)) (ringRight (c .h2b)) (t0 .0) in
-    let t2 = both (inside window c && rings && one && other) (ringRight (c .b2h)) (t1 .0) in
+    let r = ringRight (c .b2h) in
+    let r2 = ringRight (c .h2b) in
+    let t0 = both (inside window c && rings && one && other && r && r2) (onUnits c) e in
+    let t1 = both (inside window c && rings && one && other && r) r2 (t0 .0) in
+    let t2 = both (inside window c && rings && one && other) r (t1 .0) in
     let t3 = both (inside window c && rings && one) other (t2 .0) in
     let t4 = both (inside window c && rings) one (t3 .0) in
     let t5 = both (inside window c) rings (t4 .0) in
@@ -109,4 +116,5 @@ allowed-holds window c a =
     let right : ringRight (c .b2h) ≡ true = ring-holds (c .b2h) (a .b2h-right) in
     let right-too : ringRight (c .h2b) ≡ true = ring-holds (c .h2b) (a .h2b-right) in
     let units : onUnits c ≡ true = units-hold c (a .units) in
-    and (and (and (and (and (and (and (and (and (and front b2h) h2b) ros) rws) rings) one) other) right) right-too) units
+    let places = and (and (and (and front b2h) h2b) ros) rws in
+    and (and (and (and (and (and places rings) one) other) right) right-too) units

@@ -55,8 +55,8 @@ pub far-structure : liesIn (2 ^ 32) (structureAt 4294967288) ≡ true
 far-structure = refl
 
 -- Another, with no two places alike and every reserved bit set: version byte F1, byte 7 FE, the high three bits of each
--- base, type byte F1, FF in bytes 25 to 31 and from 40 on. B2H at 8 · 0x102 = 2,064 with the length whose four bytes are
--- given, H2B at 8 · 0x41 = 520 with 0x508 = 1,288 bytes, Host_ROS right behind it at 8 · 0xE2 = 1,808, Host_RWS right
+-- base, type byte F1, FF in bytes 25 to 31 and from 40 on. B2H at 8 · 0x102 = 2,064 with the length whose four bytes
+-- are given, H2B at 8 · 0x41 = 520 with 0x508 = 1,288 bytes, Host_ROS right behind it at 8 · 0xE2 = 1,808, Host_RWS right
 -- before B2H at 8 · 0x101 = 2,056.
 abbrev lengthened : ℕ → ℕ → ℕ → ℕ → List ℕ
 lengthened a b c d =
@@ -68,7 +68,13 @@ lengthened a b c d =
     ∷ replicate 24 255
 
 abbrev given : ℕ → Configuration
-given n = record { b2h = record { offset = 2064; length = n }; h2b = record { offset = 520; length = 1288 }; ros = 1808; rws = 2056 }
+given n =
+    record {
+      b2h = record { offset = 2064; length = n };
+      h2b = record { offset = 520; length = 1288 };
+      ros = 1808;
+      rws = 2056;
+    }
 
 -- a window of 2,324 bytes, which a ring of 260 (00 00 01 04) ends
 pub reserved-set : outcomeOf (lengthened 0 0 1 4 ++ replicate 2260 0) ≡ found (given 260)

@@ -124,7 +124,8 @@ module _ (n : ℕ) (c : Configuration) where
     for-outcome =
         let long : 64 ≤ n = allowed-facts n c ok .descriptor in
         let size : length (windowFor n c) ≡ n = for-length (omega arith) in
-        let same : allowed (length (windowFor n c)) (configurationIn (windowFor n c)) ≡ true = rw (size, for-configuration) ok in
+        let same : allowed (length (windowFor n c)) (configurationIn (windowFor n c)) ≡ true =
+        rw (size, for-configuration) ok in
         outcome-found _ (refusal-none _ (rw size long) refl refl refl same) ∙ ap found for-configuration
 
     -- it has n bytes, and its descriptor gives this configuration

@@ -16,7 +16,8 @@ use Rattle.mctp.proofs.packet.header_of.Reads as header-of
 use Rattle.mctp.proofs.packet.same_key.Reads as same-key
 use Rattle.mctp.proofs.refusal.Refusal.number.Reads as number
 
-pub is-null-determined : (κs : Lfts 0) (a : _) (r q : Bool) (e f : _) → is-null.Post κs a r e → is-null.Post κs a q f → r ≡ q
+pub is-null-determined : (κs : Lfts 0) (a : _) (r q : Bool) (e f : _)
+    → is-null.Post κs a r e → is-null.Post κs a q f → r ≡ q
 is-null-determined κs a r q e f p o = determined p o
 
 pub is-broadcast-determined : (κs : Lfts 0) (a : _) (r q : Bool) (e f : _)
@@ -31,7 +32,8 @@ pub is-endpoint-determined : (κs : Lfts 0) (a : _) (r q : Bool) (e f : _)
     → is-endpoint.Post κs a r e → is-endpoint.Post κs a q f → r ≡ q
 is-endpoint-determined κs a r q e f p o = determined p o
 
-pub key-of-determined : (κs : Lfts 1) (a : _) (r q : Key) (e f : _) → key-of.Post κs a r e → key-of.Post κs a q f → r ≡ q
+pub key-of-determined : (κs : Lfts 1) (a : _) (r q : Key) (e f : _)
+    → key-of.Post κs a r e → key-of.Post κs a q f → r ≡ q
 key-of-determined κs a r q e f p o = determined p o
 
 pub header-of-determined : (κs : Lfts 1) (a : _) (r q : Header) (e f : _)

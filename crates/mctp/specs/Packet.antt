@@ -12,8 +12,8 @@ use Rattle.octets.specs.Choice.{within}
 abbrev pub packetSize : ℕ → ℕ → Bool
 packetSize most n = within 5 (4 + most) n
 
--- the largest bodies that a set-up may ask for: 64 is the baseline unit; with 246 an SMBus frame has 9 + 246 = 255 bytes,
--- the most that a record of the bench program holds
+-- the largest bodies that a set-up may ask for: 64 is the baseline unit; with 246 an SMBus frame has 9 + 246 = 255
+-- bytes, the most that a record of the bench program holds
 abbrev pub mostRight : ℕ → Bool
 mostRight most = within 64 246 most
 

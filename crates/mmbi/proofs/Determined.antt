@@ -15,7 +15,8 @@ use Rattle.mmbi.proofs.pointer.pointer_right.Reads as pointer-right
 use Rattle.mmbi.proofs.word.Word.of_number.Reads as of-number
 use Rattle.mmbi.proofs.word.Word.number.Reads as number
 
-pub state-determined : (κs : Lfts 0) (a : _) (r q : InterfaceState) (e f : _) → state.Post κs a r e → state.Post κs a q f → r ≡ q
+pub state-determined : (κs : Lfts 0) (a : _) (r q : InterfaceState) (e f : _)
+    → state.Post κs a r e → state.Post κs a q f → r ≡ q
 state-determined κs a r q e f p o = determined p o
 
 pub transient-determined : (κs : Lfts 0) (a : _) (r q : Bool) (e f : _)

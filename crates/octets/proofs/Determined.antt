@@ -1,4 +1,4 @@
--- The contracts leave no choice: two results that one allows on the same input are equal, and so is every lent byte at exit.
+-- The contracts leave no choice: two results that one allows on the same input are equal, and so is every byte at exit.
 -- Assumes nothing.
 use mathlib.Core.Path.{_≡_}
 use Prim.Native.Nat.{ℕ}
@@ -12,7 +12,8 @@ use Rattle.octets.proofs.copy.lay.Reads as lay
 use Rattle.octets.proofs.word.lay_low_first.Reads as lay-low-first
 use Rattle.octets.proofs.word.lay_high_first.Reads as lay-high-first
 
-pub byte-at-determined : (κs : Lfts 1) (a : _) (r q : ℕ) (e f : _) → byte-at.Post κs a r e → byte-at.Post κs a q f → r ≡ q
+pub byte-at-determined : (κs : Lfts 1) (a : _) (r q : ℕ) (e f : _)
+    → byte-at.Post κs a r e → byte-at.Post κs a q f → r ≡ q
 byte-at-determined κs a r q e f p o = determined (p .0) (o .0)
 
 pub word-low-first-determined : (κs : Lfts 1) (a : _) (r q : ℕ) (e f : _)
@@ -24,7 +25,8 @@ pub word-high-first-determined : (κs : Lfts 1) (a : _) (r q : ℕ) (e f : _)
 word-high-first-determined κs a r q e f p o = determined p o
 
 -- Of the calls that lay bytes: the whole list at exit.
-pub lay-byte-determined : (κs : Lfts 1) (a r q e f : _) → lay-byte.Post κs a r e → lay-byte.Post κs a q f → e .0 .now ≡ f .0 .now
+pub lay-byte-determined : (κs : Lfts 1) (a r q e f : _)
+    → lay-byte.Post κs a r e → lay-byte.Post κs a q f → e .0 .now ≡ f .0 .now
 lay-byte-determined κs a r q e f p o = determined p o
 
 pub lay-determined : (κs : Lfts 2) (a r q e f : _) → lay.Post κs a r e → lay.Post κs a q f → e .0 .now ≡ f .0 .now

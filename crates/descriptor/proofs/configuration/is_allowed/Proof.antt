@@ -31,7 +31,8 @@ unfolding allowed
 returns c =
     let r = c .before .before in
     let p = r .before .before in
-    rw (c .on-units .ensures, c .before .ring-right2 .ensures, r .ring-right .ensures, r .before .is-clear2 .ensures, p .is-clear .ensures, p .before .are-apart .ensures, p .before .before .is-inside .ensures)
+    rw (c .on-units .ensures, c .before .ring-right2 .ensures, r .ring-right .ensures, r .before .is-clear2 .ensures)
+    (rw (p .is-clear .ensures, p .before .are-apart .ensures, p .before .before .is-inside .ensures))
 
 pub is-allowed-spec : {M : Type 1} → statement M
 is-allowed-spec =

@@ -1,4 +1,4 @@
--- `mctp::eid::Eid::is_reserved` meets its contract: a file of its own, so that a wrong constant is told as what differs.
+-- `mctp::eid::Eid::is_reserved` meets its contract, in a file so that a wrong constant is told as what differs.
 -- Assumes nothing.
 use mathlib.Core.Path.{refl}
 use Rattle.mctp.proofs.eid.Eid.is_reserved.Statement.{statement}
