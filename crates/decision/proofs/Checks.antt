@@ -1,14 +1,12 @@
 -- The checks: what is known of a packet that one of them let through, and of one that it refused.
 -- Assumes nothing.
 use mathlib.Core.Path.{_≡_}
-use mathlib.Core.Bool.{true, not}
+use mathlib.Core.Bool.{true}
 use mathlib.Core.List.{List}
 use Prim.Native.Nat.{ℕ, _≤_}
 use native.Mathlib.Omega.{arith}
 use borrow.Author.Tests.{not-false, eqb-true, ne-eqb, eq-eqb}
-use lib.Dec.{eqb}
 use lib.ListN.{length}
-use Rattle.octets.specs.Choice.{pick}
 use Rattle.octets.proofs.Choice.{passed}
 use Rattle.mctp.specs.declared.refusal.Refusal.{Refusal}
 use Rattle.mctp.specs.Refusals.{numberOf}
@@ -36,23 +34,27 @@ pub record PacketGood (most : ℕ) (s : Setup) (p : List ℕ) : Type 0 where
 pub setup-good : (most : ℕ) (r : Receiver) (size : ℕ) → setupRefusal most r size ≡ 0 → SetupGood most r size
 unfolding setupRefusal
 setup-good most r size e =
-    let one = passed (not (rightState most r)) 0 (pick (not (eqb size 4096)) 2 0) e in
-    let two = passed (not (eqb size 4096)) 1 0 (one .1) in
-    record { state = not-false _ (one .0); memory = eqb-true size 4096 (not-false _ (two .0)) }
+    let one = passed _ 0 _ e in
+    let two = passed _ 1 _ (one .1) in
+    record { state = not-false _ (one .0); memory = eqb-true _ _ (not-false _ (two .0)) }
 
 -- none of 3, 15 and 16
 pub packet-good : (most : ℕ) (s : Setup) (p : List ℕ) → packetRefusal most s p ≡ 0 → PacketGood most s p
 unfolding packetRefusal
 packet-good most s p e =
-    let three = passed (not (packetSize most (length p))) 2 (pick (not (eqb (versionOf p) 1)) 15 (pick (not (oursOf s (destinationOf p))) 16 0)) e in
-    let fifteen = passed (not (eqb (versionOf p) 1)) 14 (pick (not (oursOf s (destinationOf p))) 16 0) (three .1) in
-    let sixteen = passed (not (oursOf s (destinationOf p))) 15 0 (fifteen .1) in
-    record { size = not-false _ (three .0); version = eqb-true (versionOf p) 1 (not-false _ (fifteen .0)); destination = not-false _ (sixteen .0) }
+    let three = passed _ 2 _ e in
+    let fifteen = passed _ 14 _ (three .1) in
+    let sixteen = passed _ 15 _ (fifteen .1) in
+    record {
+      size = not-false _ (three .0);
+      version = eqb-true _ _ (not-false _ (fifteen .0));
+      destination = not-false _ (sixteen .0);
+    }
 
 -- not 17
 pub source-good : (p : List ℕ) → sourceRefusal p ≡ 0 → endpointEid (sourceOf p) ≡ true
 unfolding sourceRefusal
-source-good p e = not-false _ (passed (not (endpointEid (sourceOf p))) 16 0 e .0)
+source-good p e = not-false _ (passed _ 16 _ e .0)
 
 -- a check that lets a packet through leaves the rest to decide
 pub unless-good : (n : ℕ) (d : Decision) → n ≡ 0 → unless n d ≡ d

@@ -3,3 +3,4 @@ pub mod Cases
 pub mod Picked
 pub mod Decided
 pub mod Determined
+pub mod Literal
