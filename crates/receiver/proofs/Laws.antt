@@ -10,7 +10,6 @@ use lib.ListN.{length}
 use Rattle.octets.proofs.Laid.{laid-length}
 use Rattle.mctp.specs.Packet.{bodyOf}
 use Rattle.mctp.specs.Key.{keyOf}
-use Rattle.mctp.proofs.Refusals.{number-injective}
 use Rattle.slots.specs.declared.state.SlotState.{SlotState}
 use Rattle.slots.specs.declared.state.SlotState.the-variants.{Free, Gathering}
 use Rattle.slots.specs.declared.state.Receiver.{Receiver}
@@ -22,11 +21,8 @@ use Rattle.decision.specs.declared.rules.Plan.{Plan}
 use Rattle.decision.specs.Rules.{planned}
 use Rattle.decision.specs.Decision.{decided}
 use Rattle.decision.proofs.Decided.{every-decision}
-use Rattle.receiver.specs.declared.giving.Answer.{Answer}
-use Rattle.receiver.specs.declared.giving.Answer.the-variants.{Refused, Held, Done}
-use Rattle.receiver.specs.declared.giving.Given.{Given}
 use Rattle.receiver.specs.Effects.{Unchanged, SlotFreed, OneSlot}
-use Rattle.receiver.specs.Step.{refused, says, Left, left, answerOf, carried, stepOf}
+use Rattle.receiver.specs.Step.{refused, answerOf, carried, stepOf}
 use Rattle.receiver.proofs.Laid.{laid-before, laid-behind}
 
 -- giving a packet is the decision carried out
@@ -106,26 +102,3 @@ one-slot most r m p =
       bytes-before = λ k b. laid-before m (1024 * i + at) (bodyOf p) k (omega arith);
       bytes-behind = λ k b. laid-behind m (1024 * i + at) (bodyOf p) k (omega (arith, f .place));
     })
-
-zero-not-one : _≡_ {A = ℕ} 0 1 → ⊥
-zero-not-one z = omega arith
-
--- an answer is told by its number and values
-says-injective : (a b : Answer) → says a ≡ says b → a ≡ b
-says-injective (Refused r) (Refused s) e = ap Refused (number-injective r s (cc))
-says-injective (Refused r) (Held j b g) e = absurd (zero-not-one (cc))
-says-injective (Refused r) (Done j b g) e = absurd (zero-not-one (cc))
-says-injective (Held i a f) (Refused s) e = absurd (zero-not-one (cc))
-says-injective (Held i a f) (Held j b g) e = cc
-says-injective (Held i a f) (Done j b g) e = absurd (zero-not-one (cc))
-says-injective (Done i a f) (Refused s) e = absurd (zero-not-one (cc))
-says-injective (Done i a f) (Held j b g) e = absurd (zero-not-one (cc))
-says-injective (Done i a f) (Done j b g) e = cc
-
--- two results that the contract of `give` allows are equal, and so are the bytes of the two memories
-pub give-determined : (a b : Given) (m n : List ℕ) (l : Left) → left a m ≡ l → left b n ≡ l → (a ≡ b) × (m ≡ n)
-give-determined a b m n l p q =
-    let e = p ∙ sym q in
-    let answer = says-injective (a .answer) (b .answer) (ap (λ (x : Left). x .said) e) in
-    let receiver = ap (λ (x : Left). x .receiver) e in
-    ((λ i. record { answer = answer i; receiver = receiver i }), ap (λ (x : Left). x .memory) e)
