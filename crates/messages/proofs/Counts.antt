@@ -7,27 +7,19 @@ use Prim.Native.Nat.{ℕ, _+_, _*_}
 use lib.ListN.{replicate}
 use Rattle.octets.specs.Bytes.{laid}
 use Rattle.mctp.specs.Key.{keyOf, headerOf, sameKey}
-use Rattle.slots.specs.declared.state.Slot.{Slot}
-use Rattle.slots.specs.declared.state.SlotState.the-variants.{Free, Gathering}
-use Rattle.slots.specs.declared.state.Receiver.{Receiver}
 use Rattle.slots.specs.Slots.{firstOf, slotOf, lowestFree}
 use Rattle.slots.specs.State.{multiple, rightNumbers, rightSlot, clash, rightState}
-use Rattle.slots.specs.Changes.{fresh, freedOf}
+use Rattle.slots.specs.Changes.{freeSlot, freedOf}
+use Rattle.slots.proofs.Literal.{with-slots, card, gathering}
 use Rattle.decision.specs.Checks.{setupRefusal, packetRefusal, sourceRefusal}
 use Rattle.decision.specs.Rules.{after, onStart, gathered, onFollow, ruled}
 use Rattle.decision.specs.Decision.{fromSource, fromPacket, decided}
+use Rattle.decision.proofs.Literal.{packet}
 use Rattle.receiver.specs.Step.{refused, held, done, stepOf}
 use Rattle.messages.specs.Run.{give, free, rules, freed, run, runPackets}
 
--- a packet from EID 10 to EID 9 with these flags and n bytes of one value
-abbrev packet : ℕ → ℕ → ℕ → List ℕ
-packet flags n b = 1 ∷ 9 ∷ 10 ∷ flags ∷ replicate n b
-
 abbrev empty : List ℕ
 empty = replicate 4096 0
-
-abbrev card : Receiver
-card = fresh (record { own = record { 0 = 9 } })
 
 -- "bodies 64, 64, 2 with flags BD, 0D, 5D make a message of 130"
 pub three-bodies : runPackets 64 card empty (packet 0xBD 64 1 ∷ packet 0x0D 64 2 ∷ packet 0x5D 2 3 ∷ []) .answers
@@ -39,16 +31,9 @@ pub three-bodies-message : runPackets 64 card empty (packet 0xBD 64 1 ∷ packet
 unfolding run stepOf decided fromPacket fromSource setupRefusal packetRefusal sourceRefusal ruled onStart onFollow gathered after slotOf lowestFree firstOf headerOf keyOf sameKey rightState rightSlot rightNumbers multiple clash laid
 three-bodies-message = refl
 
--- a slot that gathers for tag t from EID 10, with n bytes in units of 64
-abbrev gathering : ℕ → ℕ → Slot
-gathering t n = record { state = Gathering (record { destination = record { 0 = 9 }; source = record { 0 = 10 }; owner = true; tag = t }) 0 64 n }
-
-abbrev with-slots : Slot → Slot → Slot → Slot → Receiver
-with-slots a b c d = record { setup = record { own = record { 0 = 9 } }; slots = a ∷ b ∷ c ∷ d ∷ [] }
-
 -- "1,024 bytes held, then one more": 22, and the slot is free; up to 1,024 is held
 pub one-more : stepOf 64 (with-slots (gathering 5 1024) (gathering 6 64) (gathering 7 64) (gathering 4 64)) empty (packet 0x5D 1 7)
-    ≡ record { said = refused 22; receiver = with-slots (record { state = Free }) (gathering 6 64) (gathering 7 64) (gathering 4 64); memory = empty }
+    ≡ record { said = refused 22; receiver = with-slots freeSlot (gathering 6 64) (gathering 7 64) (gathering 4 64); memory = empty }
 unfolding stepOf decided fromPacket fromSource setupRefusal packetRefusal sourceRefusal ruled onStart onFollow gathered after slotOf lowestFree firstOf headerOf keyOf sameKey rightState rightSlot rightNumbers multiple clash laid
 one-more = refl
 
@@ -73,3 +58,14 @@ pub restart-says-again : runPackets 64 card empty (packet 0x80 1 7 ∷ packet 0x
     ≡ rules (held 0 1 false) ∷ rules (held 0 2 true) ∷ rules (done 0 3 true) ∷ rules (done 0 4 false) ∷ []
 unfolding run stepOf decided fromPacket fromSource setupRefusal packetRefusal sourceRefusal ruled onStart onFollow gathered after slotOf lowestFree firstOf headerOf keyOf sameKey rightState rightSlot rightNumbers multiple clash laid
 restart-says-again = refl
+
+-- "1,024 for each slot": a message of two packets in the fourth slot lies behind 3,072 bytes, one body behind the other
+pub fourth-slot : runPackets 64 (with-slots (gathering 4 64) (gathering 5 64) (gathering 6 64) freeSlot) empty (packet 0x88 2 7 ∷ packet 0x58 1 8 ∷ [])
+    ≡ record {
+      answers = rules (held 3 2 false) ∷ rules (done 3 3 false) ∷ [];
+      messages = (7 ∷ 7 ∷ 8 ∷ []) ∷ [];
+      receiver = with-slots (gathering 4 64) (gathering 5 64) (gathering 6 64) freeSlot;
+      memory = replicate 3072 0 ++ (7 ∷ 7 ∷ 8 ∷ replicate 1021 0);
+    }
+unfolding run stepOf decided fromPacket fromSource setupRefusal packetRefusal sourceRefusal ruled onStart onFollow gathered after slotOf lowestFree firstOf headerOf keyOf sameKey rightState rightSlot rightNumbers multiple clash laid
+fourth-slot = refl

@@ -2,3 +2,4 @@ pub mod Runs
 pub mod Gathering
 pub mod Acceptance
 pub mod Counts
+pub mod Determined

@@ -1,9 +1,9 @@
 -- `messages::part::message` meets its contract: what is past the memory's end is not there.
 -- Assumes nothing.
-use mathlib.Core.Path.{_≡_, ap, sym, _∙_}
-use Prim.Native.Nat.{ℕ, _+_, _-_, _*_, _≤_}
+use mathlib.Core.Path.{_≡_}
+use Prim.Native.Nat.{_+_, _-_, _*_, _≤_}
 use native.Mathlib.Omega.{arith}
-use lib.ListN.{length, take, drop, length-drop, drop-of-length-le}
+use lib.ListN.{length, drop, length-drop, drop-of-length-le}
 use lib.Seq.{take-all, take-nil}
 use borrow.Author.Needs.{needs}
 use Rattle.messages.proofs.part.message.Statement.{statement}
@@ -43,9 +43,10 @@ returns-2 : tie.Need-returns-2
 returns-2 c =
     let a = c .before .before .before .args in
     let rest = drop (1024 * a .slot) (a .memory .now) in
-    let whole : length (a .memory .now) - 1024 * a .slot ≤ a .length = omega arith in
-    take-all (length (a .memory .now) - 1024 * a .slot) rest (omega (arith, length-drop (1024 * a .slot) (a .memory .now)))
-    ∙ sym (take-all (a .length) rest (omega (arith, length-drop (1024 * a .slot) (a .memory .now))))
+    let size = length (a .memory .now) - 1024 * a .slot in
+    let sized : length rest ≡ size = length-drop (1024 * a .slot) (a .memory .now) in
+    let whole : size ≤ a .length = omega arith in
+    rw (take-all size rest (omega arith), take-all (a .length) rest (omega arith))
 
 add-result : tie.Need-add-result
 add-result c = search needs
@@ -63,7 +64,7 @@ returns-3 : tie.Need-returns-3
 returns-3 c =
     let a = c .before .before .before .args in
     let n : 1024 * a .slot + a .length - 1024 * a .slot ≡ a .length = omega arith in
-    ap (λ (k : ℕ). take k (drop (1024 * a .slot) (a .memory .now))) n
+    rw n
 
 pub message-spec : {M : Type 1} → statement M
 message-spec =
