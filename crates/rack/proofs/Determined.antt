@@ -1,0 +1,56 @@
+-- The contracts of the three calls leave no choice: two outcomes that one allows are equal, and so is every lent byte.
+-- Assumes nothing.
+use mathlib.Core.Path.{_≡_, refl, ap}
+use mathlib.Core.List.{List}
+use Prim.Native.Nat.{ℕ}
+use contract.Lifetimes.{Lfts}
+use Rattle.octets.proofs.Choice.{determined}
+use Rattle.mctp.proofs.Refusals.{number-injective}
+use Rattle.receiver.proofs.Determined.{says-injective}
+use Rattle.rack.specs.declared.answer.NoPacket.{NoPacket}
+use Rattle.rack.specs.declared.answer.NoPacket.the-variants.{Empty, Skipped, Refused}
+use Rattle.rack.specs.declared.answer.Arrived.{Arrived}
+use Rattle.rack.specs.declared.answer.Arrived.the-variants.{Given, Nothing}
+use Rattle.rack.specs.declared.answer.Outcome.{Outcome}
+use Rattle.rack.specs.Arrivals.{without}
+use Rattle.rack.specs.Answers.{tells, Left, left}
+use Rattle.rack.proofs.path.from_smbus.Reads as smbus
+use Rattle.rack.proofs.path.from_pcc.Reads as pcc
+use Rattle.rack.proofs.path.from_ring.Reads as ring
+
+-- what is told of an answer tells it from every other
+without-injective : (a b : NoPacket) → without a ≡ without b → a ≡ b
+without-injective Empty Empty e = refl
+without-injective Empty (Skipped s q) e = cc
+without-injective Empty (Refused s) e = cc
+without-injective (Skipped r p) Empty e = cc
+without-injective (Skipped r p) (Skipped s q) e = cc (number-injective r s (cc))
+without-injective (Skipped r p) (Refused s) e = cc
+without-injective (Refused r) Empty e = cc
+without-injective (Refused r) (Skipped s q) e = cc
+without-injective (Refused r) (Refused s) e = ap Refused (number-injective r s (cc))
+
+tells-injective : (a b : Arrived) → tells a ≡ tells b → a ≡ b
+tells-injective (Given k x) (Given j y) e = cc (says-injective x y (cc))
+tells-injective (Given k x) (Nothing w) e = cc
+tells-injective (Nothing v) (Given j y) e = cc
+tells-injective (Nothing v) (Nothing w) e = ap Nothing (without-injective v w (cc))
+
+-- the answer, the receiver and every byte of the memory
+left-injective : (o q : Outcome) (m n : List ℕ) → left o m ≡ left q n → (o ≡ q) × (m ≡ n)
+left-injective o q m n e =
+    let told = tells-injective (o .arrived) (q .arrived) (ap (λ (l : Left). l .told) e) in
+    ((λ i. record { arrived = told i; receiver = e i .receiver }), ap (λ (l : Left). l .memory) e)
+
+pub from-smbus-determined : (κs : Lfts 2) (a r q e f : _) → smbus.Post κs a r e → smbus.Post κs a q f
+    → (r ≡ q) × (e .1 .1 .1 .0 .now ≡ f .1 .1 .1 .0 .now)
+from-smbus-determined κs a r q e f p o = left-injective r q _ _ (determined p o)
+
+pub from-pcc-determined : (κs : Lfts 2) (a r q e f : _) → pcc.Post κs a r e → pcc.Post κs a q f
+    → (r ≡ q) × (e .1 .1 .1 .0 .now ≡ f .1 .1 .1 .0 .now)
+from-pcc-determined κs a r q e f p o = left-injective r q _ _ (determined p o)
+
+-- from a ring, the output too
+pub from-ring-determined : (κs : Lfts 3) (a r q e f : _) → ring.Post κs a r e → ring.Post κs a q f
+    → ((r ≡ q) × (e .1 .1 .1 .1 .1 .1 .1 .0 .now ≡ f .1 .1 .1 .1 .1 .1 .1 .0 .now)) × (e .1 .1 .1 .1 .1 .0 .now ≡ f .1 .1 .1 .1 .1 .0 .now)
+from-ring-determined κs a r q e f p o = (left-injective r q _ _ (determined (p .0) (o .0)), determined (p .1) (o .1))
