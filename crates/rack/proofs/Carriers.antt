@@ -2,13 +2,16 @@
 -- Assumes nothing.
 use mathlib.Core.Path.{_≡_, refl, ap, sym, _∙_}
 use mathlib.Core.Bool.{Bool}
-use mathlib.Core.List.{List}
+use mathlib.Core.List.{List, [], _∷_}
+use mathlib.Core.Logic.{⊎-elim}
 use Prim.Native.Nat.{ℕ, _+_, _≤_, _<_}
 use native.Mathlib.Omega.{arith}
 use lib.ListN.{length, take, drop, length-take, length-drop}
 use lib.Seq.{take-at}
 use Rattle.octets.specs.Bytes.{fronted}
 use borrow.Author.Tests.{eq-eqb, ne-eqb}
+use types.Run.{OneOf}
+use denote.Enum.Declared.{tagOf}
 use Rattle.mctp.specs.declared.refusal.Refusal.{Refusal}
 use Rattle.mctp.specs.Refusals.{numberOf}
 use Rattle.mctp.proofs.Refusals.{number-positive}
@@ -26,23 +29,25 @@ use Rattle.mmbi.specs.declared.interface.Flags.{Flags}
 use Rattle.mmbi.specs.Interface.{stateOf, mayRead}
 use Rattle.ring.specs.declared.reading.Taken as ring
 use Rattle.ring.specs.declared.reading.Taken.the-variants as ring-case
+use Rattle.ring.proofs.reading.Taken.{the-type}
 use Rattle.ring.specs.Turn.{turn}
 use Rattle.ring.specs.Packet as ring-packet
 use Rattle.ring.specs.Reading as ring-says
 use Rattle.ring.proofs.Turns.{turn-length}
 use Rattle.ring.proofs.Readings.{Good, good, good-short}
 use Rattle.rack.specs.declared.answer.Known.the-variants.{Source, Notify}
-use Rattle.rack.specs.Arrivals.{Carried, packet, none, refused, smbusCarries, pccCarries, ringSays, ringCarries}
+use Rattle.rack.specs.Why.{whySmbus, whyPcc, whyRing}
+use Rattle.rack.specs.Arrivals.{Carried, packet, none, without, smbusCarries, pccCarries, ringSays, ringCarries}
 
 not-zero : (why : Refusal) {n : ℕ} → n ≡ numberOf why → n ≡ 0 → ⊥
 not-zero why e z = omega (arith, number-positive why)
 
 module _ (most : ℕ) (f : List ℕ) (own : ℕ) (c : smbus.Carried) (says : smbus-says.saysCarried c ≡ smbus-says.carriedOf most f own) where
-  pub smbus-none : (why : Refusal) → c ≡ smbus-case.Refused why → smbusCarries most f own ≡ none (refused (numberOf why))
+  pub smbus-none : (why : Refusal) → c ≡ smbus-case.Refused why → smbusCarries most f own ≡ none (without (whySmbus c))
   unfolding smbusCarries
   smbus-none why is =
       let n : frame.refusalOf most f own ≡ numberOf why = told-number most f own c says why is in
-      rw (ne-eqb (frame.refusalOf most f own) 0 (not-zero why n), n)
+      rw (ne-eqb (frame.refusalOf most f own) 0 (not-zero why n), n, is)
 
   pub smbus-packet : (a : ℕ) → c ≡ smbus-case.Packet a → smbusCarries most f own ≡ packet (frame.partOf f) (Source a)
   unfolding smbusCarries
@@ -50,11 +55,11 @@ module _ (most : ℕ) (f : List ℕ) (own : ℕ) (c : smbus.Carried) (says : smb
       rw (eq-eqb (frame.refusalOf most f own) 0 (told-good most f own c says a is), told-packet most f own c says a is, told-source most f own c says a is)
 
 module _ (most : ℕ) (r : List ℕ) (id : ℕ) (c : pcc.Carried) (says : pcc-says.says c ≡ region.readOf most r id) where
-  pub pcc-none : (why : Refusal) → c ≡ pcc-case.Refused why → pccCarries most r id ≡ none (refused (numberOf why))
+  pub pcc-none : (why : Refusal) → c ≡ pcc-case.Refused why → pccCarries most r id ≡ none (without (whyPcc c))
   unfolding pccCarries
   pcc-none why is =
       let n : region.refusalOf most r id ≡ numberOf why = sym (number-said most r id says is) in
-      rw (ne-eqb (region.refusalOf most r id) 0 (not-zero why n), n)
+      rw (ne-eqb (region.refusalOf most r id) 0 (not-zero why n), n, is)
 
   pub pcc-packet : (size : ℕ) (notify : Bool) → c ≡ pcc-case.Packet size notify → pccCarries most r id ≡ packet (region.partOf r size) (Notify notify)
   unfolding pccCarries
@@ -63,6 +68,14 @@ module _ (most : ℕ) (r : List ℕ) (id : ℕ) (c : pcc.Carried) (says : pcc-sa
       let p : region.packetOf most r id ≡ region.partOf r size = sym (packet-said most r id says is) in
       let f : region.notifyOf most r id ≡ notify = sym (notify-said most r id says is) in
       rw (eq-eqb (region.refusalOf most r id) 0 z, p, f)
+
+-- the second, third and fourth kind of a ring's answer
+says-none : (s : List ℕ) (t : ring.Taken) → OneOf (1 ∷ 2 ∷ 3 ∷ []) (tagOf the-type t) → ringSays s (ring-says.saidOf t) ≡ none (without (whyRing t))
+says-none s (ring-case.Packet size next) tag =
+    ⊎-elim (λ h. absurd (omega arith)) (⊎-elim (λ h. absurd (omega arith)) (λ h. absurd (omega arith))) tag
+says-none s ring-case.Empty tag = refl
+says-none s (ring-case.Skipped why next) tag = refl
+says-none s (ring-case.Refused why) tag = refl
 
 module _
     (most : ℕ)
@@ -86,6 +99,9 @@ module _
       pub ring-carries : ringCarries most bytes configured flags read write out ≡ ringSays (turn read bytes) (ring-says.saidOf u)
       unfolding ringCarries
       ring-carries = ap (ringSays (turn read bytes)) said
+
+    pub ring-none : OneOf (1 ∷ 2 ∷ 3 ∷ []) (tagOf the-type t) → ringCarries most bytes configured flags read write out ≡ none (without (whyRing t))
+    ring-none tag = ring-carries t refl ∙ says-none (turn read bytes) t tag
 
     module _ (size next : ℕ) (is : t ≡ ring-case.Packet size next) where
       found : Good most bytes configured (mayRead (stateOf flags)) read write (length out) size next

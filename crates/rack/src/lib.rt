@@ -1,6 +1,7 @@
 // Arrivals on the three paths: the carrier's checks, all of them, and then the message rules.
 mod answer;
 mod path;
+mod why;
 
 pub use answer::Arrived;
 pub use answer::Known;

@@ -1,8 +1,10 @@
-// One call for each path: it takes the carrier's answer apart and leaves at once unless it is a packet. "A carrier's refusal never reaches the slots."
+// One call for each path: it takes the carrier's answer apart and leaves at once unless it is a packet. "A carrier's
+// refusal never reaches the slots."
 use crate::answer::Arrived;
 use crate::answer::Known;
 use crate::answer::NoPacket;
 use crate::answer::Outcome;
+use crate::why;
 use mmbi::Flags;
 use slots::Receiver;
 ghost use mathlib.Core.Path.{_≡_};
@@ -16,18 +18,10 @@ pub fn from_smbus(frame: &[u8], own: u8, receiver: Receiver, memory: &mut [u8]) 
     ensures { λ r. ⌜ left r (now (memory .exit)) ≡ arrivedOf 64 receiver (now (memory .entry)) (smbusCarries 64 (now (frame .entry)) own) ⌝ }
 {
     let carried = smbus::carried(frame, own);
-    match carried {
-        smbus::Carried::Refused(refusal) => no_packet(
-            receiver,
-            NoPacket::Refused { refusal: refusal },
-        ),
-        smbus::Carried::Packet { source } => give(
-            receiver,
-            memory,
-            smbus::part(frame),
-            Known::Source(source),
-        ),
-    }
+    let smbus::Carried::Packet { source } = carried else {
+        return no_packet(receiver, why::smbus(carried));
+    };
+    give(receiver, memory, smbus::part(frame), Known::Source(source))
 }
 
 // A region under its subspace id.
@@ -35,21 +29,19 @@ pub fn from_pcc(region: &[u8], id: u32, receiver: Receiver, memory: &mut [u8]) -
     ensures { λ r. ⌜ left r (now (memory .exit)) ≡ arrivedOf 64 receiver (now (memory .entry)) (pccCarries 64 (now (region .entry)) id) ⌝ }
 {
     let carried = pcc::carried(region, id);
-    match carried {
-        pcc::Carried::Refused(refusal) => no_packet(
-            receiver,
-            NoPacket::Refused { refusal: refusal },
-        ),
-        pcc::Carried::Packet { size, notify } => give(
-            receiver,
-            memory,
-            pcc::part(region, size),
-            Known::Notify(notify),
-        ),
-    }
+    let pcc::Carried::Packet { size, notify } = carried else {
+        return no_packet(receiver, why::pcc(carried));
+    };
+    give(
+        receiver,
+        memory,
+        pcc::part(region, size),
+        Known::Notify(notify),
+    )
 }
 
-// What stands in a ring. A packet is copied to the output's front first, and stays there whatever the message rules answer.
+// What stands in a ring. A packet is copied to the output's front first, and stays there whatever the message rules
+// answer.
 pub fn from_ring(
     bytes: &[u8],
     configured: usize,
@@ -64,21 +56,10 @@ pub fn from_ring(
     ensures { λ _. ⌜ now (out .exit) ≡ readOf 64 (now (bytes .entry)) configured (mayRead (stateOf flags)) read write (now (out .entry)) .output ⌝ }
 {
     let taken = ring::read(bytes, configured, flags, read, write, out);
-    match taken {
-        ring::Taken::Empty => no_packet(receiver, NoPacket::Empty),
-        ring::Taken::Skipped(refusal, next) => no_packet(
-            receiver,
-            NoPacket::Skipped {
-                refusal: refusal,
-                next: next,
-            },
-        ),
-        ring::Taken::Refused(refusal) => no_packet(
-            receiver,
-            NoPacket::Refused { refusal: refusal },
-        ),
-        ring::Taken::Packet(size, next) => give(receiver, memory, &out[0..size], Known::Next(next)),
-    }
+    let ring::Taken::Packet(size, next) = taken else {
+        return no_packet(receiver, why::ring(taken));
+    };
+    give(receiver, memory, &out[0..size], Known::Next(next))
 }
 
 fn no_packet(receiver: Receiver, why: NoPacket) -> Outcome

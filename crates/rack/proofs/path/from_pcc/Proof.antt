@@ -7,17 +7,15 @@ use Rattle.rack.proofs.path.from_pcc.Tie as tie
 
 returns : tie.Need-returns
 returns c =
-    let a = c .before .before .before .before .before .before .before .args in
-    let told = c .before .before .carried2 .given in
+    let told = c .before .before .enum-told .given in
     let carried = c .before .before .before .before .carried in
-    rw (c .no-packet .ensures, pcc-none 64 (a .region .now) (a .id) (carried .result) (carried .ensures) (told .0 .0) (told .1))
+    rw (c .no-packet .ensures, c .before .pcc .ensures, pcc-none _ _ _ (carried .result) (carried .ensures) (told .0 .0) (told .1))
 
 returns-2 : tie.Need-returns-2
 returns-2 c =
-    let a = c .before .before .before .before .before .before .before .before .before .before .before .args in
-    let told = c .before .before .before .before .before .before .carried3 .given in
+    let told = c .before .before .before .before .before .before .carried2 .given in
     let carried = c .before .before .before .before .before .before .before .before .carried in
-    rw (pcc-packet 64 (a .region .now) (a .id) (carried .result) (carried .ensures) (told .0 .0) (told .0 .1 .0) (told .1), c .before .before .give .ensures, c .before .before .before .part .ensures)
+    rw (pcc-packet _ _ _ (carried .result) (carried .ensures) (told .0 .0) (told .0 .1 .0) (told .1), c .before .before .give .ensures, c .before .before .before .part .ensures)
 
 pub from-pcc-spec : {M : Type 1} → statement M
 from-pcc-spec =
@@ -25,10 +23,11 @@ from-pcc-spec =
     (tie.spec
     (λ c κs. search needs)
     (λ c. search needs)
-    (λ c κs. search needs)
     (λ c. search needs)
     (λ c κs. search needs)
     (λ c κs. search needs)
     returns
+    (λ c κs. search needs)
+    (λ c κs. search needs)
     (λ c. search needs)
     returns-2)

@@ -7,17 +7,15 @@ use Rattle.rack.proofs.path.from_smbus.Tie as tie
 
 returns : tie.Need-returns
 returns c =
-    let a = c .before .before .before .before .before .before .before .args in
-    let told = c .before .before .carried2 .given in
+    let told = c .before .before .enum-told .given in
     let carried = c .before .before .before .before .carried in
-    rw (c .no-packet .ensures, smbus-none 64 (a .frame .now) (a .own) (carried .result) (carried .ensures) (told .0 .0) (told .1))
+    rw (c .no-packet .ensures, c .before .smbus .ensures, smbus-none _ _ _ (carried .result) (carried .ensures) (told .0 .0) (told .1))
 
 returns-2 : tie.Need-returns-2
 returns-2 c =
-    let a = c .before .before .before .before .before .before .before .before .before .before .before .args in
-    let told = c .before .before .before .before .before .before .carried3 .given in
+    let told = c .before .before .before .before .before .before .carried2 .given in
     let carried = c .before .before .before .before .before .before .before .before .carried in
-    rw (smbus-packet 64 (a .frame .now) (a .own) (carried .result) (carried .ensures) (told .0 .0) (told .1), c .before .before .give .ensures, c .before .before .before .part .ensures)
+    rw (smbus-packet _ _ _ (carried .result) (carried .ensures) (told .0 .0) (told .1), c .before .before .give .ensures, c .before .before .before .part .ensures)
 
 pub from-smbus-spec : {M : Type 1} → statement M
 from-smbus-spec =
@@ -25,10 +23,11 @@ from-smbus-spec =
     (tie.spec
     (λ c κs. search needs)
     (λ c. search needs)
-    (λ c κs. search needs)
     (λ c. search needs)
     (λ c κs. search needs)
     (λ c κs. search needs)
     returns
+    (λ c κs. search needs)
+    (λ c κs. search needs)
     (λ c. search needs)
     returns-2)

@@ -1,0 +1,18 @@
+-- `rack::why::ring` meets its contract.
+-- Assumes nothing.
+use borrow.Author.Needs.{needs}
+use Rattle.rack.proofs.why.ring.Statement.{statement}
+use Rattle.rack.proofs.why.ring.Tie as tie
+
+pub ring-spec : {M : Type 1} → statement M
+ring-spec =
+    tie.close
+    (tie.spec
+    (λ c. search needs)
+    (λ c. search needs)
+    (λ c. search needs)
+    (λ c. search needs)
+    (λ c. search needs)
+    (λ c. search needs)
+    (λ c. rw (c .before .taken .given .1))
+    (λ c. rw (c .before .taken2 .given .1)))

@@ -1,0 +1,36 @@
+// Why a carrier's answer brings no packet. Asked only where it is none: an answer with a packet reads as Empty.
+use crate::answer::NoPacket;
+ghost use mathlib.Core.Path.{_≡_};
+ghost use Rattle.rack.specs.Why.{whySmbus, whyPcc, whyRing};
+
+pub fn smbus(carried: smbus::Carried) -> NoPacket
+    ensures { λ r. ⌜ r ≡ whySmbus carried ⌝ }
+{
+    match carried {
+        smbus::Carried::Packet { source: _ } => NoPacket::Empty,
+        smbus::Carried::Refused(refusal) => NoPacket::Refused { refusal: refusal },
+    }
+}
+
+pub fn pcc(carried: pcc::Carried) -> NoPacket
+    ensures { λ r. ⌜ r ≡ whyPcc carried ⌝ }
+{
+    match carried {
+        pcc::Carried::Packet { size: _, notify: _ } => NoPacket::Empty,
+        pcc::Carried::Refused(refusal) => NoPacket::Refused { refusal: refusal },
+    }
+}
+
+pub fn ring(taken: ring::Taken) -> NoPacket
+    ensures { λ r. ⌜ r ≡ whyRing taken ⌝ }
+{
+    match taken {
+        ring::Taken::Packet(_, _) => NoPacket::Empty,
+        ring::Taken::Empty => NoPacket::Empty,
+        ring::Taken::Skipped(refusal, next) => NoPacket::Skipped {
+            refusal: refusal,
+            next: next,
+        },
+        ring::Taken::Refused(refusal) => NoPacket::Refused { refusal: refusal },
+    }
+}
