@@ -12,8 +12,8 @@ use Rattle.rack.specs.declared.answer.NoPacket.the-variants.{Empty, Skip
 use Rattle.rack.specs.declared.answer.Arrived.{Arrived}
 use Rattle.rack.specs.declared.answer.Arrived.the-variants.{Given, Nothing}
 use Rattle.rack.specs.declared.answer.Outcome.{Outcome}
-use Rattle.rack.specs.Arrivals.{without}
-use Rattle.rack.specs.Answers.{tells, Left, left}
+use Rattle.rack.specs.Arrivals.{bySmbus, byPcc, byRing, without, carries}
+use Rattle.rack.specs.Answers.{tells, Left, left, arrivedOf}
 use Rattle.rack.proofs.path.from_smbus.Reads as smbus
 use Rattle.rack.proofs.path.from_pcc.Reads as pcc
 use Rattle.rack.proofs.path.from_ring.Reads as ring
@@ -42,6 +42,24 @@ left-injective o q m n e =
     let told = tells-injective (o .arrived) (q .arrived) (ap (λ (l : Left). l .told) e) in
     ((λ i. record { arrived = told i; receiver = e i .receiver }), ap (λ (l : Left). l .memory) e)
 
+-- Each contract says what the demands say of an arrival on its path (the numbers and what is lent, in the call's order) ..
+pub from-smbus-arrives : (κs : Lfts 2) (a r e : _) → smbus.Post κs a r e
+    → left r (e .1 .1 .1 .0 .now)
+    ≡ arrivedOf 64 (a .1 .1 .0) (a .1 .1 .1 .0 .now) (carries 64 (bySmbus (a .0 .now) (a .1 .0)))
+from-smbus-arrives κs a r e p = p
+
+pub from-pcc-arrives : (κs : Lfts 2) (a r e : _) → pcc.Post κs a r e
+    → left r (e .1 .1 .1 .0 .now)
+    ≡ arrivedOf 64 (a .1 .1 .0) (a .1 .1 .1 .0 .now) (carries 64 (byPcc (a .0 .now) (a .1 .0)))
+from-pcc-arrives κs a r e p = p
+
+pub from-ring-arrives : (κs : Lfts 3) (a r e : _) → ring.Post κs a r e
+    → left r (e .1 .1 .1 .1 .1 .1 .1 .0 .now)
+    ≡ arrivedOf 64 (a .1 .1 .1 .1 .1 .1 .0) (a .1 .1 .1 .1 .1 .1 .1 .0 .now)
+    (carries 64 (byRing (a .0 .now) (a .1 .0) (a .1 .1 .0) (a .1 .1 .1 .0) (a .1 .1 .1 .1 .0) (a .1 .1 .1 .1 .1 .0 .now)))
+from-ring-arrives κs a r e p = p .0
+
+-- .. and leaves no choice.
 pub from-smbus-determined : (κs : Lfts 2) (a r q e f : _) → smbus.Post κs a r e → smbus.Post κs a q f
     → (r ≡ q) × (e .1 .1 .1 .0 .now ≡ f .1 .1 .1 .0 .now)
 from-smbus-determined κs a r q e f p o = left-injective r q _ _ (determined p o)
@@ -50,7 +68,8 @@ pub from-pcc-determined : (κs : Lfts 2) (a r q e f : _) → pcc.Post κs a r e 
     → (r ≡ q) × (e .1 .1 .1 .0 .now ≡ f .1 .1 .1 .0 .now)
 from-pcc-determined κs a r q e f p o = left-injective r q _ _ (determined p o)
 
--- from a ring, the output too
+-- from a ring, of the output too
 pub from-ring-determined : (κs : Lfts 3) (a r q e f : _) → ring.Post κs a r e → ring.Post κs a q f
-    → ((r ≡ q) × (e .1 .1 .1 .1 .1 .1 .1 .0 .now ≡ f .1 .1 .1 .1 .1 .1 .1 .0 .now)) × (e .1 .1 .1 .1 .1 .0 .now ≡ f .1 .1 .1 .1 .1 .0 .now)
+    → ((r ≡ q) × (e .1 .1 .1 .1 .1 .1 .1 .0 .now ≡ f .1 .1 .1 .1 .1 .1 .1 .0 .now))
+    × (e .1 .1 .1 .1 .1 .0 .now ≡ f .1 .1 .1 .1 .1 .0 .now)
 from-ring-determined κs a r q e f p o = (left-injective r q _ _ (determined (p .0) (o .0)), determined (p .1) (o .1))
