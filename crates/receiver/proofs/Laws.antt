@@ -5,6 +5,7 @@ use mathlib.Core.Bool.{Bool, true}
 use mathlib.Core.List.{List}
 use Prim.Native.Nat.{ℕ, _+_, _*_, _≤_}
 use native.Mathlib.Omega.{arith}
+use contract.Lifetimes.{Lfts}
 use lib.Dec.{lit<}
 use lib.ListN.{length}
 use Rattle.octets.proofs.Laid.{laid-length}
@@ -17,10 +18,10 @@ use Rattle.slots.specs.State.{rightState}
 use Rattle.slots.specs.Changes.{withState}
 use Rattle.slots.proofs.States.{right-of, right-holds, with-right, slot-other}
 use Rattle.slots.proofs.Kept.{free-right}
-use Rattle.decision.specs.declared.rules.Plan.{Plan}
 use Rattle.decision.specs.Rules.{planned}
 use Rattle.decision.specs.Decision.{decided}
 use Rattle.decision.proofs.Decided.{every-decision}
+use Rattle.decision.proofs.decide.Reads as decide
 use Rattle.receiver.specs.Effects.{Unchanged, SlotFreed, OneSlot}
 use Rattle.receiver.specs.Step.{refused, answerOf, carried, stepOf}
 use Rattle.receiver.proofs.Laid.{laid-before, laid-behind}
@@ -30,9 +31,12 @@ pub step-is-decision : (most : ℕ) (r : Receiver) (m p : List ℕ) → stepOf m
 unfolding stepOf
 step-is-decision most r m p = refl
 
--- and so is what any plan allowed by the contract of `decide` says
-pub step-is-plan : (most : ℕ) (r : Receiver) (m p : List ℕ) (plan : Plan) → planned plan ≡ decided most r (length m) p → stepOf most r m p ≡ carried r m p (planned plan)
-step-is-plan most r m p plan e = step-is-decision most r m p ∙ ap (carried r m p) (sym e)
+-- and so it is with any plan that the contract of `decide` allows
+pub step-is-plan : (κs : Lfts 1) (a plan e : _) → decide.Post κs a plan e → (m : List ℕ) → length m ≡ a .1 .0
+    → stepOf 64 (a .0) m (a .1 .1 .0 .now) ≡ carried (a .0) m (a .1 .1 .0 .now) (planned plan)
+step-is-plan κs a plan e p m n =
+    step-is-decision 64 (a .0) m (a .1 .1 .0 .now)
+    ∙ ap (carried (a .0) m (a .1 .1 .0 .now)) (ap (λ (k : ℕ). decided 64 (a .0) k (a .1 .1 .0 .now)) n ∙ sym p)
 
 -- a right state stays right
 pub step-right : (most : ℕ) (r : Receiver) (m p : List ℕ) → rightState most r ≡ true → rightState most (stepOf most r m p .receiver) ≡ true

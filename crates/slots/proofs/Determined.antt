@@ -1,14 +1,18 @@
 -- The contracts of the public calls leave no choice: two results that one allows on the same input are equal.
 -- Assumes nothing.
-use mathlib.Core.Path.{_≡_, refl, ap}
+use mathlib.Core.Path.{_≡_, refl, ap, sym, _∙_}
+use mathlib.Core.Bool.{true, false}
+use Prim.Native.Nat.{ℕ, _<_}
 use native.Mathlib.Omega.{arith}
 use contract.Lifetimes.{Lfts}
 use Rattle.octets.proofs.Choice.{determined}
 use Rattle.mctp.proofs.Refusals.{number-injective, number-positive}
+use Rattle.slots.specs.declared.state.SlotState.the-variants.{Free}
 use Rattle.slots.specs.declared.change.Outcome.{Outcome}
 use Rattle.slots.specs.declared.change.Outcome.the-variants.{Good, Refused}
 use Rattle.slots.specs.declared.change.Changed.{Changed}
-use Rattle.slots.specs.Changes.{Kept, outcomeNumber, keeps}
+use Rattle.slots.specs.Changes.{Kept, outcomeNumber, keeps, withState}
+use Rattle.slots.proofs.Kept.{freed-good, freed-wrong}
 use Rattle.slots.proofs.change.set_up.Reads as set-up
 use Rattle.slots.proofs.change.free.Reads as free
 use Rattle.slots.proofs.change.with_state.Reads as with-state
@@ -57,3 +61,12 @@ lowest-free-determined κs a r q e f p o = determined p o
 
 pub state-at-determined : (κs : Lfts 0) (a r q e f : _) → state-at.Post κs a r e → state-at.Post κs a q f → r ≡ q
 state-at-determined κs a r q e f p o = determined p o
+
+-- What `right` says is what `free` goes by.
+pub right-is-freed : (κs : Lfts 0) (a e : _) → right.Post κs a true e → (i : ℕ) (r f : _) → i < 4
+    → free.Post κs (a .0, (i, tt)) r f → keeps r ≡ record { number = 0; receiver = withState (a .0) i Free }
+right-is-freed κs a e p i r f h o = o ∙ freed-good 64 (a .0) i (sym p) h
+
+pub wrong-is-kept : (κs : Lfts 0) (a e : _) → right.Post κs a false e → (i : ℕ) (r f : _)
+    → free.Post κs (a .0, (i, tt)) r f → keeps r ≡ record { number = 1; receiver = a .0 }
+wrong-is-kept κs a e p i r f o = o ∙ freed-wrong 64 (a .0) i (sym p)
