@@ -11,7 +11,7 @@ use Rattle.slots.specs.declared.state.SlotState.the-variants.{Free, Gathering}
 use Rattle.slots.specs.Slots.{firstOf, slotOf, lowestFree}
 use Rattle.slots.specs.State.{multiple, rightNumbers, rightSlot, clash, rightState}
 use Rattle.slots.specs.Changes.{freeSlot, fresh}
-use Rattle.slots.proofs.Literal.{with-slots, card, key, gathering}
+use Rattle.slots.proofs.Literal.{with-slots, card, key, slot, gathering}
 use Rattle.decision.specs.Checks.{setupRefusal, packetRefusal, sourceRefusal}
 use Rattle.decision.specs.Rules.{Decision, refuse, release, put, after, onStart, gathered, onFollow, ruled}
 use Rattle.decision.specs.Decision.{fromSource, fromPacket, decided}
@@ -74,8 +74,19 @@ pub record Literals : Type 0 where
       ∷ put 1 64 false (Gathering (key 9 10 true 5) 1 64 128)
       ∷ put 1 64 false Free
       ∷ []
+  -- "21 if a middle body differs from the unit, or an end body exceeds it": 1, 2 and 3 bytes where the unit is 2
+  pub units : map (decided 64 (with-slots (slot (key 9 10 true 5) 3 2 2) freeSlot freeSlot freeSlot) 4096)
+      (packet 0x0D 1 0 ∷ packet 0x0D 2 0 ∷ packet 0x0D 3 0 ∷ packet 0x4D 1 0 ∷ packet 0x4D 2 0 ∷ packet 0x4D 3 0 ∷ [])
+      ≡ release 0 21
+      ∷ put 0 2 false (Gathering (key 9 10 true 5) 0 2 4)
+      ∷ release 0 21
+      ∷ put 0 2 false Free
+      ∷ put 0 2 false Free
+      ∷ release 0 21
+      ∷ []
 
 pub literals : Literals
 unfolding decided fromPacket fromSource setupRefusal packetRefusal sourceRefusal ruled onStart onFollow gathered after
     slotOf lowestFree firstOf headerOf keyOf sameKey rightState rightSlot rightNumbers multiple clash
-literals = record { order = refl; sizes = refl; destinations = refl; sources = refl; starts = refl; follows = refl }
+literals =
+    record { order = refl; sizes = refl; destinations = refl; sources = refl; starts = refl; follows = refl; units = refl }

@@ -23,7 +23,7 @@ card = fresh (record { own = record { 0 = 9 } })
 abbrev pub key : ℕ → ℕ → Bool → ℕ → Key
 key d s o t = record { destination = record { 0 = d }; source = record { 0 = s }; owner = o; tag = t }
 
-abbrev slot : Key → ℕ → ℕ → ℕ → Slot
+abbrev pub slot : Key → ℕ → ℕ → ℕ → Slot
 slot k sequence unit held = record { state = Gathering k sequence unit held }
 
 -- a slot that gathers for tag t from EID 10, with n bytes in units of 64
