@@ -3,4 +3,4 @@ pub mod Gathering
 pub mod Acceptance
 pub mod Counts
 pub mod Determined
-pub mod Calls
+pub mod Said
