@@ -47,8 +47,9 @@ pub fn notify(region: &[u8], id: u32) -> bool
     }
 }
 
-// So many bytes of the region from place 16 on, where a packet stands; fewer where the region ends before. Also of a region
-// that is refused: who has not asked `carried` gets bytes that no check let through. It is `packet` that is empty where refused.
+// So many bytes of the region from place 16 on, where a packet stands; fewer where the region ends before.
+// Also of a region that is refused: who has not asked `carried` gets bytes that no check let through.
+// It is `packet` that is empty where refused.
 pub fn part(region: &[u8], size: usize) -> &[u8]
     ensures { λ r. ⌜ now r ≡ partOf (now (region .entry)) size ⌝ }
 {

@@ -8,7 +8,10 @@ use Rattle.records.proofs.line.put_last_line.Statement.{statement}
 use Rattle.records.proofs.line.put_last_line.Tie as tie
 
 returns : tie.Need-returns
-returns c = put-no-room _ _ _ (omega arith)
+returns c =
+    let a = c .before .before .args in
+    let none = put-no-room (a .out .now) (a .at) (lastLine (a .arrivals) (a .packets)) (omega arith) in
+    search needs
 
 pair-size-requires : tie.Need-pair-size-requires
 pair-size-requires c κs = search needs
@@ -33,13 +36,16 @@ unfolding lastLine
 returns-2 c =
     let a = c .before .before .before .before .before .before .before .before .before .before .args in
     let size = last-size (a .arrivals) (a .packets) in
-    put-placed (a .out .now) (a .at) (lastLine (a .arrivals) (a .packets)) (omega arith) (c .before .before .lay-pair .ensures)
+    let placed =
+    put-placed (a .out .now) (a .at) (lastLine (a .arrivals) (a .packets)) (omega arith) (c .before .before .lay-pair .ensures) in
+    search needs
 
 returns-3 : tie.Need-returns-3
 returns-3 c =
     let a = c .before .before .before .before .args in
     let size = last-size (a .arrivals) (a .packets) in
-    put-no-room _ _ _ (omega arith)
+    let none = put-no-room (a .out .now) (a .at) (lastLine (a .arrivals) (a .packets)) (omega arith) in
+    search needs
 
 pub put-last-line-spec : {M : Type 1} → statement M
 put-last-line-spec =
