@@ -2,6 +2,7 @@
 -- Assumes nothing.
 use mathlib.Core.Path.{_≡_, refl}
 use mathlib.Core.Bool.{true}
+use mathlib.Core.List.{[], _∷_}
 use lib.ListN.{replicate, take}
 use Rattle.octets.specs.Bytes.{laid, fronted}
 use Rattle.octets.specs.Words.{wordAt, wordBytes}
@@ -47,3 +48,14 @@ length-73 = refl
 pub region-83 : refusalOf 64 (take 83 literalRegion) 3 ≡ 2
 unfolding refusalOf literalRegion
 region-83 = refl
+
+-- the limits of the other checks: "id over 255", and a packet's size
+pub record Limits : Type 0 where
+  pub read-255 : refusalOf 64 (laid literalRegion 0 (0xFF ∷ [])) 255 ≡ 0
+  pub write-255 : writeRefusal 64 84 255 5 ≡ 0
+  pub packet-68 : writeRefusal 64 84 3 68 ≡ 0
+  pub packet-69 : writeRefusal 64 85 3 69 ≡ 3
+
+pub limits : Limits
+unfolding laid refusalOf writeRefusal wordAt literalRegion
+limits = record { read-255 = refl; write-255 = refl; packet-68 = refl; packet-69 = refl }

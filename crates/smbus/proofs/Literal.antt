@@ -4,7 +4,7 @@ use mathlib.Core.Path.{_≡_, refl, ap, _∙_}
 use mathlib.Core.List.{List, [], _∷_, _++_}
 use Prim.Native.Nat.{ℕ, _≤_}
 use native.Mathlib.Omega.{arith}
-use lib.ListN.{length, drop}
+use lib.ListN.{length, drop, replicate}
 use Rattle.octets.specs.Bytes.{fronted}
 use Rattle.pec.specs.Remainder.{polyStep, eightSteps, byteStep, pecFrom, pecOf}
 use Rattle.smbus.specs.Frame.{headOf, coveredOf, frameOf}
@@ -53,3 +53,28 @@ literal-output out h =
     output-written 64 out literalPacket 32 17
     (written-all 64 (length out) 5 32 17 (omega arith) (omega arith) (omega arith) (omega arith) (omega arith) (omega arith) h)
     ∙ ap (fronted out) literal-frame
+
+-- the limits of the checks: "own address over 127", "frame not 10 to 73 bytes", "packet size"
+pub record Limits : Type 0 where
+  pub own-127 : refusalOf 64 (frameOf 127 17 literalPacket) 127 ≡ 0
+  pub bytes-9 : refusalOf 64 (replicate 9 0) 32 ≡ 3
+  pub bytes-10 : refusalOf 64 (replicate 10 0) 32 ≡ 4
+  pub bytes-73 : refusalOf 64 (replicate 73 0) 32 ≡ 4
+  pub bytes-74 : refusalOf 64 (replicate 74 0) 32 ≡ 3
+  pub addresses-127 : writeRefusal 64 10 5 127 127 ≡ 0
+  pub packet-68 : writeRefusal 64 73 68 32 17 ≡ 0
+  pub packet-69 : writeRefusal 64 74 69 32 17 ≡ 3
+
+pub limits : Limits
+unfolding refusalOf writeRefusal endOf beforeEnd frameOf coveredOf headOf pecOf pecFrom byteStep eightSteps polyStep
+limits =
+    record {
+      own-127 = refl;
+      bytes-9 = refl;
+      bytes-10 = refl;
+      bytes-73 = refl;
+      bytes-74 = refl;
+      addresses-127 = refl;
+      packet-68 = refl;
+      packet-69 = refl;
+    }
