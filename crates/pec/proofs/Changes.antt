@@ -6,7 +6,7 @@ use Prim.Native.Nat.{ℕ, _+_, _-_, _≤_}
 use native.Mathlib.Omega.{arith}
 use lib.ListN.{length, getD, take, drop, length-append}
 use lib.Seq.{getD-take, getD-drop, take-append-seam, drop-append-add, getD-append-seam}
-use Rattle.pec.specs.Wire.{bitsOf, wire, Change}
+use Rattle.pec.specs.Wire.{bitsOf, wire, Change, WindowChange}
 
 -- Other bytes whose wire bits are the same up to a place, and again so many behind it.
 pub change-of : (width from : ℕ) (s t : List ℕ) → length s ≡ length t
@@ -24,6 +24,21 @@ change-of width from s t lengths front back differs =
       after = λ i h. let at : i ≡ end + (i - end) = omega arith in rw at (behind (i - end));
       differs = differs;
     }
+
+-- What lies within some neighbouring bits lies within more of them,
+wider : (m n : ℕ) (s t : List ℕ) → m ≤ n → Change m s t → Change n s t
+wider m n s t h c =
+    record {
+      lengths = c .lengths;
+      from = c .from;
+      before = c .before;
+      after = λ i k. c .after i (omega arith);
+      differs = c .differs;
+    }
+
+-- and no change within eight is left out of the law's premise.
+pub within-eight : (s t : List ℕ) → Change 8 s t → WindowChange s t
+within-eight s t c = wider 8 _ s t (omega arith) c
 
 wire-append : (s t : List ℕ) → wire (s ++ t) ≡ wire s ++ wire t
 unfolding wire bitsOf
