@@ -6,5 +6,4 @@ pub mod Demands
 pub mod Checked
 pub mod Steps
 pub mod Useless
-pub mod Determined
 pub mod Examples
