@@ -1,0 +1,45 @@
+-- What the carriers find in literal arrivals: the packet with what they know beside it, or why there is none.
+-- Assumes nothing.
+use mathlib.Core.Path.{_≡_, refl}
+use mathlib.Core.Bool.{true, false}
+use mathlib.Core.List.{List, [], _∷_}
+use Prim.Native.Nat.{ℕ}
+use lib.ListN.{replicate}
+use Rattle.octets.specs.Words.{wordAt}
+use Rattle.smbus.proofs.Literal as frame
+use Rattle.pcc.specs.Literal.{literalPacket, literalRegion}
+use Rattle.pcc.proofs.Literal as region
+use Rattle.mmbi.specs.Interface.{flagsOf, stateOf}
+use Rattle.ring.specs.Numbers.{filledOf, nextOf}
+use Rattle.ring.specs.Turn.{turn}
+use Rattle.ring.specs.Packet as bytes
+use Rattle.ring.specs.Reading as reading
+use Rattle.ring.proofs.Literal as ring
+use Rattle.rack.specs.declared.answer.Known.the-variants.{Source, Notify, Next}
+use Rattle.rack.specs.Arrivals.{Carried, bySmbus, byPcc, byRing, packet, none, empty, skipped, refused}
+use Rattle.rack.specs.Arrivals.{smbusCarries, pccCarries, ringCarries, carries}
+
+-- document 01's frame, from address 11
+pub by-smbus : carries 64 (bySmbus frame.literalFrame 32) ≡ packet frame.literalPacket (Source 0x11)
+unfolding smbusCarries
+by-smbus = rw (frame.literal-good, frame.literal-packet, frame.literal-source)
+
+-- pcc's region, which asks to be notified
+pub by-pcc : carries 64 (byPcc literalRegion 3) ≡ packet literalPacket (Notify true)
+unfolding pccCarries
+by-pcc = rw (region.literal-number, region.literal-packet, region.literal-notify)
+
+-- a ring of 128 bytes in normal runtime, read from and up to these pointers
+abbrev from : List ℕ → ℕ → ℕ → Carried
+from s read write = carries 64 (byRing s 128 (flagsOf true false true false) read write (replicate 68 0))
+
+-- ring's packet over the end; nothing; another kind; a header alone; padding that the length doesn't hold
+pub by-ring : from ring.written 120 4
+    ∷ from ring.written 4 4
+    ∷ from (0 ∷ 0 ∷ 0 ∷ 5 ∷ replicate 124 0) 0 12
+    ∷ from (0 ∷ 0 ∷ 0 ∷ 4 ∷ replicate 124 0) 0 12
+    ∷ from (0 ∷ 0 ∷ 1 ∷ 4 ∷ replicate 124 0) 0 12
+    ∷ []
+    ≡ packet ring.packet (Next 4) ∷ none empty ∷ none (skipped 14 4) ∷ none (skipped 3 4) ∷ none (refused 13) ∷ []
+unfolding ringCarries stateOf reading.takenOf reading.judged filledOf nextOf turn bytes.packetOf wordAt
+by-ring = refl
