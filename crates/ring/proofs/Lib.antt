@@ -1,4 +1,4 @@
-pub mod Orders
+pub mod Past
 pub mod Numbers
 pub mod Turns
 pub mod Headers
@@ -11,3 +11,4 @@ pub mod Ignored
 pub mod Literal
 pub mod Determined
 pub mod Made
+pub mod Order

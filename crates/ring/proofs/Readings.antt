@@ -18,7 +18,7 @@ use Rattle.ring.specs.Numbers.{lengthRight, setUpRight, pointersRight, f
 use Rattle.ring.specs.Packet.{headerAt, wholeOf, paddingField, typeField, sizeOf, mctpType, packetOf}
 use Rattle.ring.specs.Reading.{packet, empty, skipped, refused, judged, foundOf, takenOf}
 use Rattle.ring.specs.Turn.{turn}
-use Rattle.ring.proofs.Orders.{past}
+use Rattle.ring.proofs.Past.{past}
 use Rattle.mmbi.proofs.Pointers.{Pointer, pointer-facts, pointer-holds}
 use Rattle.ring.proofs.Numbers.{Length, length-facts, length-holds, filled-below}
 use Rattle.ring.proofs.Turns.{turn-length, turn-turn}

@@ -11,7 +11,7 @@ use Rattle.mctp.specs.Packet.{packetSize}
 use Rattle.ring.specs.Numbers.{setUpRight, pointersRight, filledOf, roomOf, nextOf}
 use Rattle.ring.specs.Packet.{wholeFor}
 use Rattle.ring.specs.Writing.{written, refused, putOf}
-use Rattle.ring.proofs.Orders.{past}
+use Rattle.ring.proofs.Past.{past}
 use Rattle.mmbi.proofs.Pointers.{Pointer}
 use Rattle.ring.proofs.Numbers.{filled-near, filled-room, filled-written}
 use Rattle.ring.proofs.Readings.{SetUp, set-up-facts, set-up-holds, pointers-facts, pointers-holds}
