@@ -163,6 +163,7 @@ module _ (p : List ℕ) where
 
   pub every-ring-base : Below 256 p → packetSize 64 (length p) ≡ true
       → Below 256 (arrivalRing 128 p)
-      × (ringCarries 64 (arrivalRing 128 p) 128 (flagsOf true false true false) 0 (wholeFor (length p)) (replicate 68 0) ≡ packet p (Next (wholeFor (length p))))
+      × (ringCarries 64 (arrivalRing 128 p) 128 (flagsOf true false true false) 0 (wholeFor (length p))
+      (replicate 68 0) ≡ packet p (Next (wholeFor (length p))))
   unfolding stateOf
   every-ring-base b sized = every-ring 128 (flagsOf true false true false) (replicate 68 0) b sized refl refl (lit≤ tt)

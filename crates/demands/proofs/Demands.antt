@@ -85,7 +85,8 @@ pub refused-and-freed : (r : Receiver) (m p : List ℕ) (a : Arrival) (known : K
 refused-and-freed r m p a known n e = good.rules-freed 64 r m p known n (carries 64 a) e
 
 -- a packet given to the message rules directly: the same
-pub given-and-refused : (r : Receiver) (m p : List ℕ) (n : ℕ) → stepOf 64 r m p .said ≡ refused n → (n ≡ 20 → ⊥) → (n ≡ 21 → ⊥) → (n ≡ 22 → ⊥)
+pub given-and-refused : (r : Receiver) (m p : List ℕ) (n : ℕ) → stepOf 64 r m p .said ≡ refused n → (n ≡ 20 → ⊥)
+    → (n ≡ 21 → ⊥) → (n ≡ 22 → ⊥)
     → Unchanged r m (stepOf 64 r m p .receiver) (stepOf 64 r m p .memory)
 given-and-refused = refused-unchanged 64
 
@@ -114,17 +115,20 @@ cut-ring-is-never-1 window c part is e running read write n =
     )
 
 -- what is written to it changes that ring alone: descriptor, words and the other ring stay
-pub a-write-stays-in-its-ring : (window : List ℕ) (c : Configuration) (part : Part) → isRing part ≡ true → outcomeOf window ≡ found c
+pub a-write-stays-in-its-ring : (window : List ℕ) (c : Configuration) (part : Part) → isRing part ≡ true
+    → outcomeOf window ≡ found c
     → (configured : ℕ) (running : Bool) (read write : ℕ) (p : List ℕ)
     → RingChanged window c part (putting.writeOf 64 (partOf window c part) configured running read write p .ring)
 a-write-stays-in-its-ring = write-stays
 
 -- a word, and a pointer alone, that are refused to be stored: the window stays
-pub not-stored : (window : List ℕ) (c : Configuration) (which : Pointer) (word : Word) → (storeRefusal (length window) c which (word .pointer) ≡ 0 → ⊥)
+pub not-stored : (window : List ℕ) (c : Configuration) (which : Pointer) (word : Word)
+    → (storeRefusal (length window) c which (word .pointer) ≡ 0 → ⊥)
     → stored window c which word ≡ window
 not-stored = stored-refused
 
-pub pointer-not-stored : (window : List ℕ) (c : Configuration) (which : Pointer) (pointer : ℕ) → (storeRefusal (length window) c which pointer ≡ 0 → ⊥)
+pub pointer-not-stored : (window : List ℕ) (c : Configuration) (which : Pointer) (pointer : ℕ)
+    → (storeRefusal (length window) c which pointer ≡ 0 → ⊥)
     → storedPointer window c which pointer ≡ window
 pointer-not-stored = pointer-refused
 
@@ -149,30 +153,36 @@ pub good-frame-is-the-layout : (frame : List ℕ) (own : ℕ) (h : smbus.refusal
     → frame ≡ frameOf own (smbus.sourceAddressOf 64 frame own) (smbus.packetOf 64 frame own)
 good-frame-is-the-layout = good.frame-layout 64
 
-pub written-frame-is-the-layout : (out p : List ℕ) (destination source : ℕ) → frames.writeRefusal 64 (length out) (length p) destination source ≡ 0
+pub written-frame-is-the-layout : (out p : List ℕ) (destination source : ℕ)
+    → frames.writeRefusal 64 (length out) (length p) destination source ≡ 0
     → frames.outputOf 64 out p destination source ≡ fronted out (frameOf destination source p)
 written-frame-is-the-layout = output-written 64
 
 -- a good region is the layout of its packet with its own flags, of which bit 0 is notify, and a written one has no other flag
 pub good-region-is-the-layout : (region : List ℕ) (id : ℕ) → Below 256 region → pcc.refusalOf 64 region id ≡ 0
-    → take (16 + length (pcc.packetOf 64 region id)) region ≡ regionWith id (wordAt lowFirst region 4) (pcc.packetOf 64 region id)
+    → take (16 + length (pcc.packetOf 64 region id)) region
+    ≡ regionWith id (wordAt lowFirst region 4) (pcc.packetOf 64 region id)
 good-region-is-the-layout = good-front 64
 
-pub written-region-is-the-layout : (region : List ℕ) (id : ℕ) (notify : Bool) (p : List ℕ) → regions.writeRefusal 64 (length region) id (length p) ≡ 0
+pub written-region-is-the-layout : (region : List ℕ) (id : ℕ) (notify : Bool) (p : List ℕ)
+    → regions.writeRefusal 64 (length region) id (length p) ≡ 0
     → regions.writtenOf 64 region id notify p ≡ fronted region (regionOf id notify p)
 written-region-is-the-layout region id notify p = written-whole region p id notify 64
 
 -- a packet taken out of a ring stands there from the read pointer on as Table 6 has it, with some reserved bits and some padding of the right length, and a
 -- written one with zeros
-pub good-ring-packet-is-the-layout : (ring : List ℕ) (configured : ℕ) (running : Bool) (read write output size next : ℕ) → Below 256 ring
+pub good-ring-packet-is-the-layout : (ring : List ℕ) (configured : ℕ) (running : Bool)
+    (read write output size next : ℕ) → Below 256 ring
     → taking.takenOf 64 ring configured running read write output ≡ taking.packet size next
     → RingLayout (turn read ring) (packetOf (turn read ring))
 good-ring-packet-is-the-layout = ring-layout 64
 
-pub written-ring-packet-is-the-layout : (ring : List ℕ) (configured : ℕ) (running : Bool) (read write : ℕ) (p : List ℕ) (next : ℕ)
+pub written-ring-packet-is-the-layout : (ring : List ℕ) (configured : ℕ) (running : Bool) (read write : ℕ)
+    (p : List ℕ) (next : ℕ)
     → putting.writeOf 64 ring configured running read write p .says ≡ putting.written next
     → putting.writeOf 64 ring configured running read write p .ring ≡ turning.stored ring write (ringBytes p)
-written-ring-packet-is-the-layout ring configured running read write p next e = ap (λ (s : putting.Said). putting.ringOf s ring write p) e
+written-ring-packet-is-the-layout ring configured running read write p next e =
+    ap (λ (s : putting.Said). putting.ringOf s ring write p) e
 
 -- "and messages are put together by the MCTP rules": packets of one key with start first, sequences rising modulo 4, middles of the start's size, an end
 -- no longer, are accepted whatever may stand between; held is the sum of the bodies so far, the message is the bodies joined
@@ -182,9 +192,11 @@ pub messages-are-put-together : (r : Receiver) (m first : List ℕ) (items : Lis
 messages-are-put-together r m first items final t = acceptance 64 r m first items final t
 
 -- a message of one packet, with start and end, is done at once
-pub a-message-of-one-packet : (r : Receiver) (m p : List ℕ) → rightState 64 r ≡ true → length m ≡ 4096 → slotFor (r .slots) (keyOf p) < 4
+pub a-message-of-one-packet : (r : Receiver) (m p : List ℕ) → rightState 64 r ≡ true → length m ≡ 4096
+    → slotFor (r .slots) (keyOf p) < 4
     → Starts 64 (r .setup) p → endOf p ≡ true
-    → (run 64 r m (give p ∷ []) .answers ≡ rules (done (slotFor (r .slots) (keyOf p)) (length (bodyOf p)) (ltb (slotOf (r .slots) (keyOf p)) 4)) ∷ [])
+    → (run 64 r m (give p ∷ []) .answers
+    ≡ rules (done (slotFor (r .slots) (keyOf p)) (length (bodyOf p)) (ltb (slotOf (r .slots) (keyOf p)) 4)) ∷ [])
     × (run 64 r m (give p ∷ []) .messages ≡ bodyOf p ∷ [])
 a-message-of-one-packet = single-accepted 64
 
@@ -236,7 +248,9 @@ every-packet-by-ring p = good.every-ring p
 -- of which one is for every packet: 128 bytes, B_UP and H_UP set (1010), an output of 68
 pub every-packet-by-a-ring : (p : List ℕ) → Below 256 p → packetSize 64 (length p) ≡ true
     → Below 256 (arrivalRing 128 p)
-    × (carries 64 (byRing (arrivalRing 128 p) 128 (flagsOf true false true false) 0 (wholeFor (length p)) (replicate 68 0)) ≡ packet p (Next (wholeFor (length p))))
+    × (carries 64
+    (byRing (arrivalRing 128 p) 128 (flagsOf true false true false) 0 (wholeFor (length p)) (replicate 68 0))
+    ≡ packet p (Next (wholeFor (length p))))
 every-packet-by-a-ring = good.every-ring-base
 
 -- "A good SMBus frame with one or more bits changed, all within eight neighbouring bits in wire order, is refused.": at every own address

@@ -60,19 +60,24 @@ no-frame : carries 64 (bySmbus [] 32) ≡ carrier.none (carrier.refused 3)
 unfolding carrier.smbusCarries smbus.refusalOf
 no-frame = refl
 
-pub without-a-packet : arrival 64 card empty (bySmbus [] 32) ≡ record { told = nothing (carrier.refused 3); receiver = card; memory = empty }
+pub without-a-packet : arrival 64 card empty (bySmbus [] 32)
+    ≡ record { told = nothing (carrier.refused 3); receiver = card; memory = empty }
 without-a-packet = demands.without-a-packet card empty (bySmbus [] 32) (carrier.refused 3) no-frame
 
 -- document 01's frame, come to another EID
-pub refused-by-the-rules : Unchanged stranger empty (arrival 64 stranger empty (bySmbus literalFrame 32) .receiver) (arrival 64 stranger empty (bySmbus literalFrame 32) .memory)
+pub refused-by-the-rules : Unchanged stranger empty (arrival 64 stranger empty (bySmbus literalFrame 32) .receiver)
+    (arrival 64 stranger empty (bySmbus literalFrame 32) .memory)
 refused-by-the-rules =
     demands.refused-by-the-rules stranger empty (bySmbus literalFrame 32) (Source 17) 16
-    (ap (λ (c : Carried). arrivedOf 64 stranger empty c .told) literal-carried ∙ ap (given (Source 17)) (steps .not-ours))
+    (ap (λ (c : Carried). arrivedOf 64 stranger empty c .told) literal-carried
+    ∙ ap (given (Source 17)) (steps .not-ours))
     (λ e. omega arith) (λ e. omega arith) (λ e. omega arith)
 
-pub given-and-refused : Unchanged stranger empty (stepOf 64 stranger empty literalPacket .receiver) (stepOf 64 stranger empty literalPacket .memory)
+pub given-and-refused : Unchanged stranger empty (stepOf 64 stranger empty literalPacket .receiver)
+    (stepOf 64 stranger empty literalPacket .memory)
 given-and-refused =
-    demands.given-and-refused stranger empty literalPacket 16 (steps .not-ours) (λ e. omega arith) (λ e. omega arith) (λ e. omega arith)
+    demands.given-and-refused stranger empty literalPacket 16 (steps .not-ours) (λ e. omega arith) (λ e. omega arith)
+    (λ e. omega arith)
 
 -- sequence 0 where 1 is the next, by a region
 abbrev wrong : List ℕ
@@ -84,12 +89,16 @@ wrongRegion = regionFor 3 true wrong
 wrong-carried : carries 64 (byPcc wrongRegion 3) ≡ carrier.packet wrong (Notify true)
 wrong-carried = demands.every-packet-by-pcc wrong 3 true (all-bytes wrong tt) refl (lit≤ tt) .1
 
-pub refused-and-freed : SlotFreed (keyOf wrong) gathering empty (arrival 64 gathering empty (byPcc wrongRegion 3) .receiver) (arrival 64 gathering empty (byPcc wrongRegion 3) .memory)
+pub refused-and-freed : SlotFreed (keyOf wrong) gathering empty
+    (arrival 64 gathering empty (byPcc wrongRegion 3) .receiver)
+    (arrival 64 gathering empty (byPcc wrongRegion 3) .memory)
 refused-and-freed =
     demands.refused-and-freed gathering empty wrong (byPcc wrongRegion 3) (Notify true) 20 wrong-carried
-    (ap (λ (c : Carried). arrivedOf 64 gathering empty c .told) wrong-carried ∙ ap (given (Notify true)) (steps .not-next)) (lit≤ tt)
+    (ap (λ (c : Carried). arrivedOf 64 gathering empty c .told) wrong-carried
+    ∙ ap (given (Notify true)) (steps .not-next)) (lit≤ tt)
 
-pub given-and-freed : SlotFreed (keyOf wrong) gathering empty (stepOf 64 gathering empty wrong .receiver) (stepOf 64 gathering empty wrong .memory)
+pub given-and-freed : SlotFreed (keyOf wrong) gathering empty (stepOf 64 gathering empty wrong .receiver)
+    (stepOf 64 gathering empty wrong .memory)
 given-and-freed = demands.given-and-freed gathering empty wrong 20 (steps .not-next) (lit≤ tt)
 
 -- slot 4, which no receiver has
@@ -98,23 +107,31 @@ not-freed = demands.not-freed card 4 (λ e. omega (arith, steps .no-slot))
 
 -- the window of document 003's tables, worked out by hand
 pub cut-ring-is-never-1 : (running : Bool) (read write n : ℕ)
-    → (taking.takenOf 64 (window.partOf windowImage imageConfiguration B2h) (partPlace imageConfiguration B2h .length) running read write n ≡ taking.refused 1 → ⊥)
-    × (putting.putOf 64 (length (window.partOf windowImage imageConfiguration B2h)) (partPlace imageConfiguration B2h .length) running read write n ≡ putting.refused 1 → ⊥)
+    → (taking.takenOf 64 (window.partOf windowImage imageConfiguration B2h)
+    (partPlace imageConfiguration B2h .length) running read write n ≡ taking.refused 1 → ⊥)
+    × (putting.putOf 64 (length (window.partOf windowImage imageConfiguration B2h))
+    (partPlace imageConfiguration B2h .length) running read write n ≡ putting.refused 1 → ⊥)
 cut-ring-is-never-1 = demands.cut-ring-is-never-1 windowImage imageConfiguration B2h refl image-found
 
-pub a-write-stays-in-its-ring : window.RingChanged windowImage imageConfiguration B2h (putting.writeOf 64 (window.partOf windowImage imageConfiguration B2h) 128 true 0 0 literalPacket .ring)
-a-write-stays-in-its-ring = demands.a-write-stays-in-its-ring windowImage imageConfiguration B2h refl image-found 128 true 0 0 literalPacket
+pub a-write-stays-in-its-ring : window.RingChanged windowImage imageConfiguration B2h
+    (putting.writeOf 64 (window.partOf windowImage imageConfiguration B2h) 128 true 0 0 literalPacket .ring)
+a-write-stays-in-its-ring =
+    demands.a-write-stays-in-its-ring windowImage imageConfiguration B2h refl image-found 128 true 0 0 literalPacket
 
 -- 12: pointer 2 is no multiple of 4
 no-pointer : window.storeRefusal (length windowImage) imageConfiguration H2bWrite 2 ≡ 12
 unfolding window.storeRefusal allowed inside clear ringRight
 no-pointer = refl
 
-pub not-stored : window.stored windowImage imageConfiguration H2bWrite (record { pointer = 2; high = true; low = false }) ≡ windowImage
-not-stored = demands.not-stored windowImage imageConfiguration H2bWrite (record { pointer = 2; high = true; low = false }) (λ e. omega (arith, no-pointer))
+pub not-stored : window.stored windowImage imageConfiguration H2bWrite
+    (record { pointer = 2; high = true; low = false }) ≡ windowImage
+not-stored =
+    demands.not-stored windowImage imageConfiguration H2bWrite (record { pointer = 2; high = true; low = false })
+    (λ e. omega (arith, no-pointer))
 
 pub pointer-not-stored : window.storedPointer windowImage imageConfiguration H2bWrite 2 ≡ windowImage
-pointer-not-stored = demands.pointer-not-stored windowImage imageConfiguration H2bWrite 2 (λ e. omega (arith, no-pointer))
+pointer-not-stored =
+    demands.pointer-not-stored windowImage imageConfiguration H2bWrite 2 (λ e. omega (arith, no-pointer))
 
 -- no room for a frame, nor for a region; a ring that isn't running
 no-room : (frames.writeRefusal 64 0 5 32 17 ≡ 2) × (regions.writeRefusal 64 0 3 5 ≡ 2)
@@ -136,7 +153,8 @@ ring-not-written = demands.ring-not-written (replicate 128 238) 128 false 0 0 li
 
 -- DEMAND 2
 
-pub good-frame-is-the-layout : literalFrame ≡ frameOf 32 (smbus.sourceAddressOf 64 literalFrame 32) (smbus.packetOf 64 literalFrame 32)
+pub good-frame-is-the-layout : literalFrame
+    ≡ frameOf 32 (smbus.sourceAddressOf 64 literalFrame 32) (smbus.packetOf 64 literalFrame 32)
 good-frame-is-the-layout = demands.good-frame-is-the-layout literalFrame 32 literal-good
 
 -- a frame's ten bytes, a region's 84
@@ -150,23 +168,28 @@ ten = replicate 10 238
 pub written-frame-is-the-layout : frames.outputOf 64 ten literalPacket 32 17 ≡ fronted ten (frameOf 32 17 literalPacket)
 written-frame-is-the-layout = demands.written-frame-is-the-layout ten literalPacket 32 17 (writable .0)
 
-pub frame-reads-back : carries 64 (bySmbus (take (frames.frameSize 5) (frames.outputOf 64 ten literalPacket 32 17)) 32) ≡ carrier.packet literalPacket (Source 17)
+pub frame-reads-back : carries 64
+    (bySmbus (take (frames.frameSize 5) (frames.outputOf 64 ten literalPacket 32 17)) 32)
+    ≡ carrier.packet literalPacket (Source 17)
 frame-reads-back = demands.frame-reads-back ten literalPacket 32 17 (writable .0)
 
 abbrev bare : List ℕ
 bare = replicate 84 238
 
-pub written-region-is-the-layout : regions.writtenOf 64 bare 3 true literalPacket ≡ fronted bare (regionOf 3 true literalPacket)
+pub written-region-is-the-layout : regions.writtenOf 64 bare 3 true literalPacket
+    ≡ fronted bare (regionOf 3 true literalPacket)
 written-region-is-the-layout = demands.written-region-is-the-layout bare 3 true literalPacket (writable .1)
 
-pub region-reads-back : carries 64 (byPcc (regions.writtenOf 64 bare 3 true literalPacket) 3) ≡ carrier.packet literalPacket (Notify true)
+pub region-reads-back : carries 64 (byPcc (regions.writtenOf 64 bare 3 true literalPacket) 3)
+    ≡ carrier.packet literalPacket (Notify true)
 region-reads-back = demands.region-reads-back bare 3 true literalPacket (writable .1)
 
 -- a region made for the packet
 abbrev made : List ℕ
 made = regionFor 3 true literalPacket
 
-pub good-region-is-the-layout : take (16 + length (pcc.packetOf 64 made 3)) made ≡ regionWith 3 (wordAt lowFirst made 4) (pcc.packetOf 64 made 3)
+pub good-region-is-the-layout : take (16 + length (pcc.packetOf 64 made 3)) made
+    ≡ regionWith 3 (wordAt lowFirst made 4) (pcc.packetOf 64 made 3)
 good-region-is-the-layout =
     demands.good-region-is-the-layout made 3 (demands.every-packet-by-pcc literalPacket 3 true small refl (lit≤ tt) .0)
     (every-number 64 3 true literalPacket refl (lit≤ tt) refl)
@@ -178,15 +201,21 @@ round = replicate 128 238
 written : putting.writeOf 64 round 128 true 120 120 image.packet .says ≡ putting.written 4
 written = ap (λ (l : putting.Left). l .says) image.image-written
 
-pub written-ring-packet-is-the-layout : putting.writeOf 64 round 128 true 120 120 image.packet .ring ≡ stored round 120 (ringBytes image.packet)
-written-ring-packet-is-the-layout = demands.written-ring-packet-is-the-layout round 128 true 120 120 image.packet 4 written
+pub written-ring-packet-is-the-layout : putting.writeOf 64 round 128 true 120 120 image.packet .ring
+    ≡ stored round 120 (ringBytes image.packet)
+written-ring-packet-is-the-layout =
+    demands.written-ring-packet-is-the-layout round 128 true 120 120 image.packet 4 written
 
 running : mayRead (stateOf (flagsOf true false true false)) ≡ true
 unfolding stateOf
 running = refl
 
-pub ring-reads-back : carries 64 (byRing (putting.writeOf 64 round 128 true 120 120 image.packet .ring) 128 (flagsOf true false true false) 120 4 (replicate 68 0)) ≡ carrier.packet image.packet (Next 4)
-ring-reads-back = demands.ring-reads-back round 128 true 120 120 image.packet 4 (flagsOf true false true false) (replicate 68 0) written running (lit≤ tt)
+pub ring-reads-back : carries 64
+    (byRing (putting.writeOf 64 round 128 true 120 120 image.packet .ring) 128 (flagsOf true false true false) 120 4
+    (replicate 68 0)) ≡ carrier.packet image.packet (Next 4)
+ring-reads-back =
+    demands.ring-reads-back round 128 true 120 120 image.packet 4 (flagsOf true false true false)
+    (replicate 68 0) written running (lit≤ tt)
 
 -- the ring so written
 pub good-ring-packet-is-the-layout : RingLayout (turn 120 image.written) (packetOf (turn 120 image.written))
@@ -197,32 +226,46 @@ good-ring-packet-is-the-layout =
 -- document 01's message of 130, with something of each kind between its packets
 pub messages-are-put-together : Accepted card (packetWith 0xBD 64 1) middles (packetWith 0x5D 2 3)
     (run 64 card empty (give (packetWith 0xBD 64 1) ∷ (callsOf middles ++ (give (packetWith 0x5D 2 3) ∷ []))))
-    (run 64 (stepOf 64 card empty (packetWith 0xBD 64 1) .receiver) (stepOf 64 card empty (packetWith 0xBD 64 1) .memory) (callsOf middles))
+    (run 64 (stepOf 64 card empty (packetWith 0xBD 64 1) .receiver)
+    (stepOf 64 card empty (packetWith 0xBD 64 1) .memory) (callsOf middles))
     (slotFor (card .slots) (keyOf (packetWith 0xBD 64 1)))
-messages-are-put-together = demands.messages-are-put-together card empty (packetWith 0xBD 64 1) middles (packetWith 0x5D 2 3) (steps .train)
+messages-are-put-together =
+    demands.messages-are-put-together card empty (packetWith 0xBD 64 1) middles (packetWith 0x5D 2 3) (steps .train)
 
 pub a-message-of-one-packet :
-    (run 64 card empty (give literalPacket ∷ []) .answers ≡ rules (done (slotFor (card .slots) (keyOf literalPacket)) 1 (ltb (slotOf (card .slots) (keyOf literalPacket)) 4)) ∷ [])
+    (run 64 card empty (give literalPacket ∷ []) .answers
+    ≡ rules (done (slotFor (card .slots) (keyOf literalPacket)) 1
+    (ltb (slotOf (card .slots) (keyOf literalPacket)) 4)) ∷ [])
     × (run 64 card empty (give literalPacket ∷ []) .messages ≡ bodyOf literalPacket ∷ [])
 a-message-of-one-packet =
-    demands.a-message-of-one-packet card empty literalPacket (steps .right) refl (omega (arith, steps .room)) (steps .one-packet) refl
+    demands.a-message-of-one-packet card empty literalPacket (steps .right) refl (omega (arith, steps .room))
+    (steps .one-packet) refl
 
 -- DEMAND 3
 
-pub every-packet-by-smbus : Below 256 (frameOf 32 17 literalPacket) × (carries 64 (bySmbus (frameOf 32 17 literalPacket) 32) ≡ carrier.packet literalPacket (Source 17))
+pub every-packet-by-smbus : Below 256 (frameOf 32 17 literalPacket)
+    × (carries 64 (bySmbus (frameOf 32 17 literalPacket) 32) ≡ carrier.packet literalPacket (Source 17))
 every-packet-by-smbus = demands.every-packet-by-smbus literalPacket 32 17 small refl (lit≤ tt) (lit≤ tt)
 
-pub every-packet-by-pcc : Below 256 (regionFor 3 true literalPacket) × (carries 64 (byPcc (regionFor 3 true literalPacket) 3) ≡ carrier.packet literalPacket (Notify true))
+pub every-packet-by-pcc : Below 256 (regionFor 3 true literalPacket)
+    × (carries 64 (byPcc (regionFor 3 true literalPacket) 3) ≡ carrier.packet literalPacket (Notify true))
 every-packet-by-pcc = demands.every-packet-by-pcc literalPacket 3 true small refl (lit≤ tt)
 
 pub every-packet-by-ring : Below 256 (arrivalRing 65536 literalPacket)
-    × (carries 64 (byRing (arrivalRing 65536 literalPacket) 65536 (flagsOf true false true false) 0 (wholeFor 5) (replicate 100 0)) ≡ carrier.packet literalPacket (Next (wholeFor 5)))
-every-packet-by-ring = demands.every-packet-by-ring literalPacket 65536 (flagsOf true false true false) (replicate 100 0) small refl refl running (lit≤ tt)
+    × (carries 64
+    (byRing (arrivalRing 65536 literalPacket) 65536 (flagsOf true false true false) 0 (wholeFor 5)
+    (replicate 100 0)) ≡ carrier.packet literalPacket (Next (wholeFor 5)))
+every-packet-by-ring =
+    demands.every-packet-by-ring literalPacket 65536 (flagsOf true false true false)
+    (replicate 100 0) small refl refl running (lit≤ tt)
 
 pub every-packet-by-a-ring : Below 256 (arrivalRing 128 literalPacket)
-    × (carries 64 (byRing (arrivalRing 128 literalPacket) 128 (flagsOf true false true false) 0 (wholeFor 5) (replicate 68 0)) ≡ carrier.packet literalPacket (Next (wholeFor 5)))
+    × (carries 64
+    (byRing (arrivalRing 128 literalPacket) 128 (flagsOf true false true false) 0 (wholeFor 5) (replicate 68 0))
+    ≡ carrier.packet literalPacket (Next (wholeFor 5)))
 every-packet-by-a-ring = demands.every-packet-by-a-ring literalPacket small refl
 
 pub changed-frame-is-refused : (other : ℕ) → smbus.refusalOf 64 acrossBorder other ≡ 0 → ⊥
 changed-frame-is-refused =
-    demands.changed-frame-is-refused literalFrame acrossBorder (all-bytes literalFrame tt) (all-bytes acrossBorder tt) across-border 32 literal-good
+    demands.changed-frame-is-refused literalFrame acrossBorder (all-bytes literalFrame tt)
+    (all-bytes acrossBorder tt) across-border 32 literal-good

@@ -34,7 +34,10 @@ gathering =
     record {
       setup = record { own = record { 0 = 9 } };
       slots =
-          record { state = Gathering (record { destination = record { 0 = 9 }; source = record { 0 = 10 }; owner = false; tag = 0 }) 0 1 1 }
+          record {
+            state = Gathering
+                (record { destination = record { 0 = 9 }; source = record { 0 = 10 }; owner = false; tag = 0 }) 0 1 1;
+          }
           ∷ record { state = Free }
           ∷ record { state = Free }
           ∷ record { state = Free }
@@ -94,7 +97,8 @@ steps =
                 (inr (3, lit≤ tt, refl), ((λ (e : _≡_ {A = ℕ} 3 0). omega arith), tt)),
               ),
             );
-            follows = record { checked = refl; source = refl; not-start = refl; key = refl; sequence = refl; size = refl; room = lit≤ tt };
+            follows =
+                record { checked = refl; source = refl; not-start = refl; key = refl; sequence = refl; size = refl; room = lit≤ tt };
             ends = refl;
           };
     }

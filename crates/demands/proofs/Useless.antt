@@ -61,7 +61,8 @@ module _ (build : Receiver → List ℕ → Arrival → Left) (meets : (r : Rece
   pub refuses-every-region : ((region : List ℕ) (id : ℕ) → Refuses (byPcc region id)) → ⊥
   refuses-every-region all =
       refuser (byPcc (regionFor 3 true literalPacket) 3) literalPacket _
-      (every-region literalPacket 3 true (all-bytes literalPacket tt) refl (lit≤ tt) .1) (all (regionFor 3 true literalPacket) 3)
+      (every-region literalPacket 3 true (all-bytes literalPacket tt) refl (lit≤ tt) .1)
+      (all (regionFor 3 true literalPacket) 3)
 
   pub refuses-every-ring : ((ring : List ℕ) (configured : ℕ) (flags : Flags) (read write : ℕ) (out : List ℕ) → Refuses (byRing ring configured flags read write out)) → ⊥
   refuses-every-ring all =
@@ -125,13 +126,17 @@ module _ (build : Receiver → List ℕ → List ℕ → rules.Left) (meets : (r
   pub one-held-count : (n : ℕ) → ((r : Receiver) (m p : List ℕ) (slot bytes : ℕ) (again : Bool) → build r m p .said ≡ rules.held slot bytes again → bytes ≡ n) → ⊥
   one-held-count n all =
       let one = all card empty (packetWith 0x80 1 7) 0 1 false begun in
-      let two = all card empty (packetWith 0x80 2 7) 0 2 false (said card empty (packetWith 0x80 2 7) (rules.held 0 2 false) (steps .held-two)) in
+      let two =
+      all card empty (packetWith 0x80 2 7) 0 2 false
+      (said card empty (packetWith 0x80 2 7) (rules.held 0 2 false) (steps .held-two)) in
       omega arith
 
 -- ".. or packet count fails since .. packets is counted by 2's layouts.": a build is the state that the transcript's calls leave after some frames
-pub one-packet-count : (build : List (List ℕ) → State) → ((frames : List (List ℕ)) → build frames ≡ transcript.run start empty frames .state)
+pub one-packet-count : (build : List (List ℕ) → State)
+    → ((frames : List (List ℕ)) → build frames ≡ transcript.run start empty frames .state)
     → (n : ℕ) → ((frames : List (List ℕ)) → build frames .packets ≡ n) → ⊥
 one-packet-count build meets n all =
     let none : build [] .packets ≡ 0 = ap (λ (s : State). s .packets) (meets []) ∙ none-counted in
-    let one : build (literalFrame ∷ []) .packets ≡ 1 = ap (λ (s : State). s .packets) (meets (literalFrame ∷ [])) ∙ one-counted in
+    let one : build (literalFrame ∷ []) .packets ≡ 1 =
+    ap (λ (s : State). s .packets) (meets (literalFrame ∷ [])) ∙ one-counted in
     omega (arith, none, one, all [], all (literalFrame ∷ []))

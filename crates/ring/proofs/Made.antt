@@ -24,7 +24,8 @@ unfolding turn
 turn-bytes n s b = below-append (drop n s) (take n s) (below-drop n s b) (below-take n s b)
 
 -- a number by the four fields of a header
-by-fields : (header : ℕ) → header ≡ header / 1024 * 1024 + header / 256 % 4 * 256 + header % 16 + 16 * (header / 16 % 16)
+by-fields : (header : ℕ) → header
+    ≡ header / 1024 * 1024 + header / 256 % 4 * 256 + header % 16 + 16 * (header / 16 % 16)
 by-fields header = omega arith
 
 -- a header that says MCTP's type, and more than its padding, is that of a packet of its size, but for what is reserved
@@ -63,20 +64,29 @@ module _ (most : ℕ) (ring : List ℕ) (configured : ℕ) (running : Bool) (rea
   g : Good most ring configured running read write output size next
   g = good most ring configured running read write output size next e
 
-  header : Passed most (filledOf configured read write) (headerAt s) (nextOf configured read (wholeOf (headerAt s))) size next
+  header : Passed most (filledOf configured read write) (headerAt s)
+      (nextOf configured read (wholeOf (headerAt s))) size next
   header = g .header
 
   -- all of it lies in the ring
   lies : wholeOf (headerAt s) < length s
   lies =
-      omega (arith, header .held, turn-length read ring, g .set-up .same, filled-below configured read write (g .from .below) (g .to .below))
+      omega (
+        arith,
+        header .held,
+        turn-length read ring,
+        g .set-up .same,
+        filled-below configured read write
+            (g .from .below) (g .to .below),
+      )
 
   taken-length : length (packetOf s) ≡ sizeOf (headerAt s)
   unfolding packetOf
   taken-length = simp (length-take, length-drop) (omega (arith, lies, header .counted))
 
   taken-whole : take (wholeFor (length (packetOf s))) s
-      ≡ ringWith (headerAt s / 16 % 16) (packetOf s) (take (paddingFor (length (packetOf s))) (drop (4 + length (packetOf s)) s))
+      ≡ ringWith (headerAt s / 16 % 16) (packetOf s)
+      (take (paddingFor (length (packetOf s))) (drop (4 + length (packetOf s)) s))
   unfolding packetOf
   taken-whole =
       let reserved = headerAt s / 16 % 16 in
@@ -84,15 +94,18 @@ module _ (most : ℕ) (ring : List ℕ) (configured : ℕ) (running : Bool) (rea
       let head : take 4 s ≡ wordBytes highFirst (headerFor n + 16 * reserved) =
       bytes-back highFirst s 0 (turn-bytes read ring b) (omega (arith, lies, header .counted))
       ∙ ap (wordBytes highFirst)
-      (header-is (headerAt s) (header .ours) (header .counted) ∙ ap (λ (k : ℕ). headerFor k + 16 * reserved) (sym taken-length)) in
+      (header-is (headerAt s) (header .ours) (header .counted)
+      ∙ ap (λ (k : ℕ). headerFor k + 16 * reserved) (sym taken-length)) in
       let body : take n (drop 4 s) ≡ packetOf s = ap (λ (k : ℕ). take k (drop 4 s)) taken-length in
       parts s n (paddingFor n) ∙ (λ i. head i ++ (body i ++ take (paddingFor n) (drop (4 + n) s)))
 
   -- and the padding is as long as it is said
-  taken-padding : length (take (paddingFor (length (packetOf s))) (drop (4 + length (packetOf s)) s)) ≡ paddingFor (length (packetOf s))
+  taken-padding : length (take (paddingFor (length (packetOf s))) (drop (4 + length (packetOf s)) s))
+      ≡ paddingFor (length (packetOf s))
   taken-padding =
       let n = length (packetOf s) in
-      let whole : wholeFor n ≡ wholeOf (headerAt s) = ap wholeFor taken-length ∙ sym (whole-is (headerAt s) (header .ours) (header .counted)) in
+      let whole : wholeFor n ≡ wholeOf (headerAt s) =
+      ap wholeFor taken-length ∙ sym (whole-is (headerAt s) (header .ours) (header .counted)) in
       held s n (paddingFor n) (subst (λ (k : ℕ). k < length s) (sym whole) lies)
 
   pub ring-layout : RingLayout s (packetOf s)

@@ -22,13 +22,15 @@ pub record Reading : Type 0 where
   pub eleven-twelve : reading.takenOf 64 (headed 0 0 11 4) 128 false 2 12 68 ≡ reading.refused 11
   pub twelve-empty : reading.takenOf 64 (headed 0 0 11 4) 128 true 2 2 68 ≡ reading.refused 12
   pub empty-thirteen : reading.takenOf 64 (headed 255 0 11 4) 128 true 0 0 68 ≡ reading.empty
-  pub thirteen-fourteen : map (λ (c : ℕ). reading.takenOf 64 (headed 0 0 c 5) 128 true 0 8 68) (8 ∷ 1 ∷ []) ≡ reading.refused 13 ∷ reading.refused 13 ∷ []
+  pub thirteen-fourteen : map (λ (c : ℕ). reading.takenOf 64 (headed 0 0 c 5) 128 true 0 8 68) (8 ∷ 1 ∷ [])
+      ≡ reading.refused 13 ∷ reading.refused 13 ∷ []
   pub fourteen-three : reading.takenOf 64 (headed 0 0 0 5) 128 true 0 8 68 ≡ reading.skipped 14 4
   -- packets of 4, 5, 68 and 69 bytes
   pub sizes : map (λ (c : ℕ). reading.takenOf 64 (headed 0 0 c 4) 128 true 0 76 68) (4 ∷ 11 ∷ 68 ∷ 75 ∷ [])
       ≡ reading.skipped 3 8 ∷ reading.packet 5 12 ∷ reading.packet 68 72 ∷ reading.skipped 3 76 ∷ []
   -- a pointer at 124, and at the length
-  pub pointers : map (λ (read : ℕ). reading.takenOf 64 (headed 0 0 11 4) 128 true read 124 68) (124 ∷ 128 ∷ []) ≡ reading.empty ∷ reading.refused 12 ∷ []
+  pub pointers : map (λ (read : ℕ). reading.takenOf 64 (headed 0 0 11 4) 128 true read 124 68) (124 ∷ 128 ∷ [])
+      ≡ reading.empty ∷ reading.refused 12 ∷ []
 
 pub reading-order : Reading
 unfolding reading.takenOf reading.judged filledOf nextOf turn wordAt
@@ -52,11 +54,14 @@ pub record Writing : Type 0 where
   pub eleven-twelve : writing.putOf 64 128 128 false 2 0 5 ≡ writing.refused 11
   pub twelve-two : writing.putOf 64 128 128 true 2 0 68 ≡ writing.refused 12
   -- room for 8, for 12, and for none
-  pub rooms : map (λ (read : ℕ). writing.putOf 64 128 128 true read 0 5) (12 ∷ 16 ∷ 4 ∷ []) ≡ writing.refused 2 ∷ writing.written 12 ∷ writing.refused 2 ∷ []
-  pub sizes : map (writing.putOf 64 128 128 true 0 0) (4 ∷ 5 ∷ 68 ∷ 69 ∷ []) ≡ writing.refused 3 ∷ writing.written 12 ∷ writing.written 72 ∷ writing.refused 3 ∷ []
+  pub rooms : map (λ (read : ℕ). writing.putOf 64 128 128 true read 0 5) (12 ∷ 16 ∷ 4 ∷ [])
+      ≡ writing.refused 2 ∷ writing.written 12 ∷ writing.refused 2 ∷ []
+  pub sizes : map (writing.putOf 64 128 128 true 0 0) (4 ∷ 5 ∷ 68 ∷ 69 ∷ [])
+      ≡ writing.refused 3 ∷ writing.written 12 ∷ writing.written 72 ∷ writing.refused 3 ∷ []
   -- "a multiple of 4 from 128 to 65,536"
   pub lengths : map (λ (n : ℕ). writing.putOf 64 n n true 0 0 5) (124 ∷ 128 ∷ 130 ∷ 65536 ∷ 65540 ∷ 131200 ∷ [])
-      ≡ writing.refused 1 ∷ writing.written 12 ∷ writing.refused 1 ∷ writing.written 12 ∷ writing.refused 1 ∷ writing.refused 1 ∷ []
+      ≡ writing.refused 1 ∷ writing.written 12 ∷ writing.refused 1 ∷ writing.written 12 ∷ writing.refused 1
+      ∷ writing.refused 1 ∷ []
 
 pub writing-order : Writing
 unfolding writing.putOf filledOf roomOf nextOf

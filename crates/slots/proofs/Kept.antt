@@ -58,12 +58,16 @@ freed-past most r i h = by-state (rightState most r)
     by-state false = refl
 
 -- whatever the number is, refused: nothing changes
-pub freed-refused : (most : ℕ) (r : Receiver) (i : ℕ) → (freedOf most r i .number ≡ 0 → ⊥) → freedOf most r i .receiver ≡ r
+pub freed-refused : (most : ℕ) (r : Receiver) (i : ℕ) → (freedOf most r i .number ≡ 0 → ⊥)
+    → freedOf most r i .receiver ≡ r
 unfolding freedOf
 freed-refused most r i = by-test (rightState most r && ltb i 4)
   where
-    by-test : (b : Bool) → (pick {A = Kept} b (record { number = 0; receiver = withState r i Free }) (record { number = 1; receiver = r }) .number ≡ 0 → ⊥)
-        → pick {A = Kept} b (record { number = 0; receiver = withState r i Free }) (record { number = 1; receiver = r }) .receiver ≡ r
+    by-test : (b : Bool)
+        → (pick {A = Kept} b (record { number = 0; receiver = withState r i Free })
+        (record { number = 1; receiver = r }) .number ≡ 0 → ⊥)
+        → pick {A = Kept} b (record { number = 0; receiver = withState r i Free })
+        (record { number = 1; receiver = r }) .receiver ≡ r
     by-test true never = absurd (never refl)
     by-test false never = refl
 

@@ -38,7 +38,8 @@ image-stored = refl
 
 -- The window with other words: of Host_ROS B2H_WP and H2B_RP, of Host_RWS H2B_WP and B2H_RP
 abbrev withWords : List ℕ → List ℕ → List ℕ → List ℕ → List ℕ
-withWords b2hWrite h2bRead h2bWrite b2hRead = descriptorImage ++ (b2hWrite ++ (h2bRead ++ (h2bWrite ++ (b2hRead ++ replicate 260 0))))
+withWords b2hWrite h2bRead h2bWrite b2hRead =
+    descriptorImage ++ (b2hWrite ++ (h2bRead ++ (h2bWrite ++ (b2hRead ++ replicate 260 0))))
 
 abbrev low : ℕ → List ℕ
 low n = 0 ∷ 0 ∷ 0 ∷ n ∷ []
@@ -78,7 +79,9 @@ each-flag = refl
 
 -- pointers of four bytes, no two alike: 01020304, 05060708, 090A0B0C, 0D0E0F10
 pub four-pointers :
-    interfaceIn (withWords (1 ∷ 2 ∷ 3 ∷ 4 ∷ []) (5 ∷ 6 ∷ 7 ∷ 8 ∷ []) (9 ∷ 10 ∷ 11 ∷ 12 ∷ []) (13 ∷ 14 ∷ 15 ∷ 16 ∷ [])) imageConfiguration
+    interfaceIn
+    (withWords (1 ∷ 2 ∷ 3 ∷ 4 ∷ []) (5 ∷ 6 ∷ 7 ∷ 8 ∷ []) (9 ∷ 10 ∷ 11 ∷ 12 ∷ [])
+    (13 ∷ 14 ∷ 15 ∷ 16 ∷ [])) imageConfiguration
     ≡ record {
       flags = flagsOf false false false false;
       b2h = record { read = 219025168; write = 16909060 };
@@ -91,7 +94,8 @@ four-pointers = refl
 
 -- a window of bytes EE with room for larger pointers: Host_ROS at 64, Host_RWS at 72, B2H of 1,024 bytes, H2B of 2,048
 abbrev wide : Configuration
-wide = record { b2h = record { offset = 80; length = 1024 }; h2b = record { offset = 1104; length = 2048 }; ros = 64; rws = 72 }
+wide =
+    record { b2h = record { offset = 80; length = 1024 }; h2b = record { offset = 1104; length = 2048 }; ros = 64; rws = 72 }
 
 abbrev bare : List ℕ
 bare = replicate 3152 238
@@ -107,8 +111,10 @@ kept n = replicate n 238
 pub each-store :
     map (λ (w : Word). structures B2hWrite w ++ structures H2bRead w ++ structures H2bWrite w ++ structures B2hRead w)
     (record { pointer = 772; high = true; low = false } ∷ record { pointer = 772; high = false; low = true } ∷ [])
-    ≡ ((0 ∷ 0 ∷ 3 ∷ 6 ∷ kept 12) ++ (kept 4 ++ (0 ∷ 0 ∷ 3 ∷ 4 ∷ kept 8)) ++ (kept 8 ++ (0 ∷ 0 ∷ 3 ∷ 6 ∷ kept 4)) ++ (kept 12 ++ (0 ∷ 0 ∷ 3 ∷ 4 ∷ [])))
-    ∷ ((0 ∷ 0 ∷ 3 ∷ 5 ∷ kept 12) ++ (kept 4 ++ (0 ∷ 0 ∷ 3 ∷ 5 ∷ kept 8)) ++ (kept 8 ++ (0 ∷ 0 ∷ 3 ∷ 5 ∷ kept 4)) ++ (kept 12 ++ (0 ∷ 0 ∷ 3 ∷ 5 ∷ [])))
+    ≡ ((0 ∷ 0 ∷ 3 ∷ 6 ∷ kept 12) ++ (kept 4 ++ (0 ∷ 0 ∷ 3 ∷ 4 ∷ kept 8)) ++ (kept 8 ++ (0 ∷ 0 ∷ 3 ∷ 6 ∷ kept 4))
+    ++ (kept 12 ++ (0 ∷ 0 ∷ 3 ∷ 4 ∷ [])))
+    ∷ ((0 ∷ 0 ∷ 3 ∷ 5 ∷ kept 12) ++ (kept 4 ++ (0 ∷ 0 ∷ 3 ∷ 5 ∷ kept 8)) ++ (kept 8 ++ (0 ∷ 0 ∷ 3 ∷ 5 ∷ kept 4))
+    ++ (kept 12 ++ (0 ∷ 0 ∷ 3 ∷ 5 ∷ [])))
     ∷ []
 unfolding stored storeRefusal cleared numberOf allowed inside clear ringRight wordBytes laid
 each-store = refl
@@ -134,6 +140,8 @@ unfolding storeRefusal allowed inside clear ringRight
 setup-first = refl
 
 -- B2H_RP moved on to 8 where its word is 00 00 00 07: H_RDY stays, the reserved bit doesn't
-pub reserved-cleared : take 16 (drop 64 (storedPointer (withWords (low 0) (low 0) (low 0) (low 7)) imageConfiguration B2hRead 8)) ≡ replicate 15 0 ++ (9 ∷ [])
+pub reserved-cleared : take 16
+    (drop 64 (storedPointer (withWords (low 0) (low 0) (low 0) (low 7)) imageConfiguration B2hRead 8))
+    ≡ replicate 15 0 ++ (9 ∷ [])
 unfolding storedPointer stored storeRefusal wordIn cleared wordOf numberOf allowed inside clear ringRight wordAt wordBytes laid
 reserved-cleared = refl

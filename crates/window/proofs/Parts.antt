@@ -55,7 +55,8 @@ unfolding partOf placeIn
 part-refused s c part e = rw e
 
 -- "each ring length is a multiple of 4 from 128 to 65,536"
-pub ring-right : (window : ℕ) (c : Configuration) (part : Part) → isRing part ≡ true → Allowed window c → RingRight (partPlace c part)
+pub ring-right : (window : ℕ) (c : Configuration) (part : Part) → isRing part ≡ true → Allowed window c
+    → RingRight (partPlace c part)
 ring-right window c B2h e a = a .b2h-right
 ring-right window c H2b e a = a .h2b-right
 ring-right window c Ros e a = absurd (false≢true e)

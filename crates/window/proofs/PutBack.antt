@@ -50,14 +50,16 @@ module _ (s : List ℕ) (c : Configuration) (ring : Part) (bytes : List ℕ) (is
   descriptor-stays =
       let right : RingRight (partPlace c ring) = ring-right (length s) c ring is facts in
       laid-beside s (partPlace c ring .offset) bytes 0 64
-      (⊎-elim (λ (h : _). absurd (omega (arith, right .least))) (λ (h : _). inr h) (ring-clear (length s) c ring is facts .descriptor))
+      (⊎-elim (λ (h : _). absurd (omega (arith, right .least))) (λ (h : _). inr h)
+      (ring-clear (length s) c ring is facts .descriptor))
 
   word-stays : (p : Pointer) → wordIn (putBack s c ring bytes) c p ≡ wordIn s c p
   unfolding wordIn
   word-stays p =
       let place = partPlace c ring .offset in
       let apart : (place + length bytes ≤ wordPlace c p) ⊎ (wordPlace c p + 4 ≤ place) =
-      ⊎-elim (λ (h : _). inr h) (λ (h : _). inl (omega (arith, fits))) (beside c p ring (ring-clear (length s) c ring is facts)) in
+      ⊎-elim (λ (h : _). inr h) (λ (h : _). inl (omega (arith, fits)))
+      (beside c p ring (ring-clear (length s) c ring is facts)) in
       rw (kept-length, laid-word-beside highFirst s place bytes (wordPlace c p) apart)
 
   -- all four words
@@ -90,4 +92,5 @@ module _ (s : List ℕ) (c : Configuration) (ring : Part) (bytes : List ℕ) (is
       ∙ take-at bytes rest n fits)
 
   pub put-back : RingChanged s c ring bytes
-  put-back = record { descriptor = descriptor-stays; words = words-stay; other-ring = other-ring-stays; itself = ring-is-back }
+  put-back =
+      record { descriptor = descriptor-stays; words = words-stay; other-ring = other-ring-stays; itself = ring-is-back }

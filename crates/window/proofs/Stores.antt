@@ -90,9 +90,11 @@ stored-refused s c p w never = rw (ne-eqb (storeRefusal (length s) c p (w .point
 pub pointer-refused : (s : List ℕ) (c : Configuration) (p : Pointer) (at : ℕ)
     → (storeRefusal (length s) c p at ≡ 0 → ⊥) → storedPointer s c p at ≡ s
 unfolding storedPointer
-pointer-refused s c p at = stored-refused s c p (record { pointer = at; high = wordIn s c p .high; low = wordIn s c p .low })
+pointer-refused s c p at =
+    stored-refused s c p (record { pointer = at; high = wordIn s c p .high; low = wordIn s c p .low })
 
-module _ (s : List ℕ) (c : Configuration) (p : Pointer) (w : Word) (good : storeRefusal (length s) c p (w .pointer) ≡ 0) where
+module _ (s : List ℕ) (c : Configuration) (p : Pointer) (w : Word)
+    (good : storeRefusal (length s) c p (w .pointer) ≡ 0) where
   ok : allowed (length s) c ≡ true
   ok = store-facts (length s) c p (w .pointer) good .0
 
@@ -130,7 +132,8 @@ pointer-back s c p at good =
     let held = wordIn s c p in
     let w : Word = record { pointer = at; high = held .high; low = held .low } in
     let high : (held .high && hasUp p) ≡ held .high =
-    ap (λ (x : Word). x .high) (cleared-twice p (wordOf (pick (allowed (length s) c) (wordAt highFirst s (wordPlace c p)) 0))) in
+    ap (λ (x : Word). x .high)
+    (cleared-twice p (wordOf (pick (allowed (length s) c) (wordAt highFirst s (wordPlace c p)) 0))) in
     stored-back s c p w good ∙ (λ i. record { pointer = at; high = high i; low = held .low })
 
 -- what holds of the window, and of what is laid over it, holds of what is stored, refused or not
@@ -142,18 +145,22 @@ stored-either s c p w P same good =
 
 -- a word that does not overlap the one that is stored stays
 pub store-keeps-others : (s : List ℕ) (c : Configuration) (p : Pointer) (w : Word) (q : Pointer)
-    → (wordPlace c p + 4 ≤ wordPlace c q) ⊎ (wordPlace c q + 4 ≤ wordPlace c p) → wordIn (stored s c p w) c q ≡ wordIn s c q
+    → (wordPlace c p + 4 ≤ wordPlace c q) ⊎ (wordPlace c q + 4 ≤ wordPlace c p) → wordIn (stored s c p w) c q
+    ≡ wordIn s c q
 unfolding wordIn
 store-keeps-others s c p w q h =
     stored-either s c p w (λ (l : List ℕ). wordIn l c q ≡ wordIn s c q) refl
     (λ (good : storeRefusal (length s) c p (w .pointer) ≡ 0).
     let n = numberOf (cleared p w) in
     let same : wordAt highFirst (stored s c p w) (wordPlace c q) ≡ wordAt highFirst s (wordPlace c q) =
-    rw (stored-laid s c p w good) (laid-word-beside highFirst s (wordPlace c p) (wordBytes highFirst n) (wordPlace c q) (rw (word-length highFirst n) h)) in
+    rw (stored-laid s c p w good)
+    (laid-word-beside highFirst s (wordPlace c p) (wordBytes highFirst n) (wordPlace c q)
+    (rw (word-length highFirst n) h)) in
     rw (stored-length s c p w, same))
 
 -- a ring is clear of both structures
-pub ring-clear : (window : ℕ) (c : Configuration) (ring : Part) → isRing ring ≡ true → Allowed window c → Clear c (partPlace c ring)
+pub ring-clear : (window : ℕ) (c : Configuration) (ring : Part) → isRing ring ≡ true → Allowed window c
+    → Clear c (partPlace c ring)
 ring-clear window c B2h r a = a .b2h-clear
 ring-clear window c H2b r a = a .h2b-clear
 ring-clear window c Ros r a = absurd (false≢true r)
@@ -178,4 +185,5 @@ store-keeps-rings s c p w ring r =
     let clear : Clear c q = ring-clear (length s) c ring r (allowed-facts (length s) c (ok s c p w good)) in
     rw (stored-length s c p w, ok s c p w good)
     (ap (λ (l : List ℕ). bytesAt l q) (stored-laid s c p w good)
-    ∙ laid-beside s (wordPlace c p) (wordBytes highFirst n) (q .offset) (q .length) (rw (word-length highFirst n) (beside c p ring clear))))
+    ∙ laid-beside s (wordPlace c p) (wordBytes highFirst n) (q .offset) (q .length)
+    (rw (word-length highFirst n) (beside c p ring clear))))

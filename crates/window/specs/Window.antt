@@ -102,5 +102,6 @@ storedPointer s c p at = stored s c p (record { pointer = at; high = wordIn s c 
 pub record RingChanged (s : List ℕ) (c : Configuration) (ring : Part) (bytes : List ℕ) : Type 0 where
   pub descriptor : take 64 (putBack s c ring bytes) ≡ take 64 s
   pub words : interfaceIn (putBack s c ring bytes) c ≡ interfaceIn s c
-  pub other-ring : (other : Part) → isRing other ≡ true → (other ≡ ring → ⊥) → partOf (putBack s c ring bytes) c other ≡ partOf s c other
+  pub other-ring : (other : Part) → isRing other ≡ true → (other ≡ ring → ⊥) → partOf (putBack s c ring bytes) c other
+      ≡ partOf s c other
   pub itself : partOf (putBack s c ring bytes) c ring ≡ bytes

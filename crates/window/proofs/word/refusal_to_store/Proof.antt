@@ -19,14 +19,28 @@ unfolding storeRefusal
 returns-2 c =
     let place = c .before .before .before in
     let asked = place .before .before in
-    rw (sym (asked .before .is-allowed .ensures) ∙ not-false _ (asked .if1 .left), sym (place .before .points-into .ensures), sym (place .part-place .ensures), sym (c .before .pointer-right .ensures) ∙ c .if2 .taken)
+    rw (
+      sym (asked .before .is-allowed .ensures)
+          ∙ not-false _ (asked .if1 .left),
+      sym (place .before .points-into .ensures),
+      sym
+          (place .part-place .ensures),
+      sym (c .before .pointer-right .ensures) ∙ c .if2 .taken,
+    )
 
 returns-3 : tie.Need-returns-3
 unfolding storeRefusal
 returns-3 c =
     let place = c .before .before .before in
     let asked = place .before .before in
-    rw (sym (asked .before .is-allowed .ensures) ∙ not-false _ (asked .if1 .left), sym (place .before .points-into .ensures), sym (place .part-place .ensures), sym (c .before .pointer-right .ensures) ∙ c .if2 .left)
+    rw (
+      sym (asked .before .is-allowed .ensures)
+          ∙ not-false _ (asked .if1 .left),
+      sym (place .before .points-into .ensures),
+      sym
+          (place .part-place .ensures),
+      sym (c .before .pointer-right .ensures) ∙ c .if2 .left,
+    )
 
 pub refusal-to-store-spec : {M : Type 1} → statement M
 refusal-to-store-spec =
