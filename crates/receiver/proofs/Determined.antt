@@ -6,7 +6,7 @@ use Rattle.octets.proofs.Choice.{determined}
 use Rattle.mctp.proofs.Refusals.{number-injective}
 use Rattle.receiver.specs.declared.giving.Answer.{Answer}
 use Rattle.receiver.specs.declared.giving.Answer.the-variants.{Refused, Held, Done}
-use Rattle.receiver.specs.Step.{says, Left}
+use Rattle.receiver.specs.Step.{says, Left, left}
 use Rattle.receiver.proofs.giving.give.Reads as give
 
 -- an answer is told by its number and values
@@ -25,6 +25,6 @@ says-injective (Done i a f) (Done j b g) e = cc
 pub give-determined : (κs : Lfts 2) (a r q e f : _) → give.Post κs a r e → give.Post κs a q f
     → (r ≡ q) × (e .1 .0 .now ≡ f .1 .0 .now)
 give-determined κs a r q e f p o =
-    let same = determined p o in
+    let same : left r (e .1 .0 .now) ≡ left q (f .1 .0 .now) = determined p o in
     let answer = says-injective (r .answer) (q .answer) (ap (λ (l : Left). l .said) same) in
     ((λ i. record { answer = answer i; receiver = same i .receiver }), ap (λ (l : Left). l .memory) same)
