@@ -89,4 +89,12 @@ pub literals : Literals
 unfolding decided fromPacket fromSource setupRefusal packetRefusal sourceRefusal ruled onStart onFollow gathered after
     slotOf lowestFree firstOf headerOf keyOf sameKey rightState rightSlot rightNumbers multiple clash
 literals =
-    record { order = refl; sizes = refl; destinations = refl; sources = refl; starts = refl; follows = refl; units = refl }
+    record {
+      order = refl;
+      sizes = refl;
+      destinations = refl;
+      sources = refl;
+      starts = refl;
+      follows = refl;
+      units = refl;
+    }

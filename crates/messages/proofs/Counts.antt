@@ -33,7 +33,11 @@ three-bodies-message = refl
 
 -- "1,024 bytes held, then one more": 22, and the slot is free; up to 1,024 is held
 pub one-more : stepOf 64 (with-slots (gathering 5 1024) (gathering 6 64) (gathering 7 64) (gathering 4 64)) empty (packet 0x5D 1 7)
-    ≡ record { said = refused 22; receiver = with-slots freeSlot (gathering 6 64) (gathering 7 64) (gathering 4 64); memory = empty }
+    ≡ record {
+      said = refused 22;
+      receiver = with-slots freeSlot (gathering 6 64) (gathering 7 64) (gathering 4 64);
+      memory = empty;
+    }
 unfolding stepOf decided fromPacket fromSource setupRefusal packetRefusal sourceRefusal ruled onStart onFollow gathered after slotOf lowestFree firstOf headerOf keyOf sameKey rightState rightSlot rightNumbers multiple clash laid
 one-more = refl
 
@@ -60,12 +64,14 @@ unfolding run stepOf decided fromPacket fromSource setupRefusal packetRefusal so
 restart-says-again = refl
 
 -- "1,024 for each slot": a message of two packets in the fourth slot lies behind 3,072 bytes, one body behind the other
-pub fourth-slot : runPackets 64 (with-slots (gathering 4 64) (gathering 5 64) (gathering 6 64) freeSlot) empty (packet 0x88 2 7 ∷ packet 0x58 1 8 ∷ [])
+pub fourth-slot : runPackets 64 (with-slots (gathering 4 64) (gathering 5 64) (gathering 6 64) freeSlot) empty
+    (packet 0x88 2 7 ∷ packet 0x58 1 8 ∷ [])
     ≡ record {
       answers = rules (held 3 2 false) ∷ rules (done 3 3 false) ∷ [];
       messages = (7 ∷ 7 ∷ 8 ∷ []) ∷ [];
       receiver = with-slots (gathering 4 64) (gathering 5 64) (gathering 6 64) freeSlot;
       memory = replicate 3072 0 ++ (7 ∷ 7 ∷ 8 ∷ replicate 1021 0);
     }
-unfolding run stepOf decided fromPacket fromSource setupRefusal packetRefusal sourceRefusal ruled onStart onFollow gathered after slotOf lowestFree firstOf headerOf keyOf sameKey rightState rightSlot rightNumbers multiple clash laid
+unfolding run stepOf decided fromPacket fromSource setupRefusal packetRefusal sourceRefusal ruled onStart onFollow gathered
+    after slotOf lowestFree firstOf headerOf keyOf sameKey rightState rightSlot rightNumbers multiple clash laid
 fourth-slot = refl

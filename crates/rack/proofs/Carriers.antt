@@ -70,7 +70,8 @@ module _ (most : ℕ) (r : List ℕ) (id : ℕ) (c : pcc.Carried) (says : pcc-sa
       rw (eq-eqb (region.refusalOf most r id) 0 z, p, f)
 
 -- the second, third and fourth kind of a ring's answer
-says-none : (s : List ℕ) (t : ring.Taken) → OneOf (1 ∷ 2 ∷ 3 ∷ []) (tagOf the-type t) → ringSays s (ring-says.saidOf t) ≡ none (without (whyRing t))
+says-none : (s : List ℕ) (t : ring.Taken) → OneOf (1 ∷ 2 ∷ 3 ∷ []) (tagOf the-type t)
+    → ringSays s (ring-says.saidOf t) ≡ none (without (whyRing t))
 says-none s (ring-case.Packet size next) tag =
     ⊎-elim (λ h. absurd (omega arith)) (⊎-elim (λ h. absurd (omega arith)) (λ h. absurd (omega arith))) tag
 says-none s ring-case.Empty tag = refl
@@ -100,7 +101,8 @@ module _
       unfolding ringCarries
       ring-carries = ap (ringSays (turn read bytes)) said
 
-    pub ring-none : OneOf (1 ∷ 2 ∷ 3 ∷ []) (tagOf the-type t) → ringCarries most bytes configured flags read write out ≡ none (without (whyRing t))
+    pub ring-none : OneOf (1 ∷ 2 ∷ 3 ∷ []) (tagOf the-type t)
+        → ringCarries most bytes configured flags read write out ≡ none (without (whyRing t))
     ring-none tag = ring-carries t refl ∙ says-none (turn read bytes) t tag
 
     module _ (size next : ℕ) (is : t ≡ ring-case.Packet size next) where

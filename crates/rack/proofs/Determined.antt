@@ -42,7 +42,7 @@ left-injective o q m n e =
     let told = tells-injective (o .arrived) (q .arrived) (ap (λ (l : Left). l .told) e) in
     ((λ i. record { arrived = told i; receiver = e i .receiver }), ap (λ (l : Left). l .memory) e)
 
--- Each contract says what the demands say of an arrival on its path (the numbers and what is lent, in the call's order) ..
+-- Each contract says what the demands say of an arrival on its path ..
 pub from-smbus-arrives : (κs : Lfts 2) (a r e : _) → smbus.Post κs a r e
     → left r (e .1 .1 .1 .0 .now)
     ≡ arrivedOf 64 (a .1 .1 .0) (a .1 .1 .1 .0 .now) (carries 64 (bySmbus (a .0 .now) (a .1 .0)))
@@ -56,7 +56,8 @@ from-pcc-arrives κs a r e p = p
 pub from-ring-arrives : (κs : Lfts 3) (a r e : _) → ring.Post κs a r e
     → left r (e .1 .1 .1 .1 .1 .1 .1 .0 .now)
     ≡ arrivedOf 64 (a .1 .1 .1 .1 .1 .1 .0) (a .1 .1 .1 .1 .1 .1 .1 .0 .now)
-    (carries 64 (byRing (a .0 .now) (a .1 .0) (a .1 .1 .0) (a .1 .1 .1 .0) (a .1 .1 .1 .1 .0) (a .1 .1 .1 .1 .1 .0 .now)))
+    (carries 64 (byRing (a .0 .now) (a .1 .0) (a .1 .1 .0) (a .1 .1 .1 .0) (a .1 .1 .1 .1 .0)
+    (a .1 .1 .1 .1 .1 .0 .now)))
 from-ring-arrives κs a r e p = p .0
 
 -- .. and leaves no choice.

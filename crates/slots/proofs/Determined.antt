@@ -20,7 +20,7 @@ use Rattle.slots.proofs.check.ours.Reads as ours
 use Rattle.slots.proofs.check.right.Reads as right
 use Rattle.slots.proofs.check.right_within.Reads as within
 use Rattle.slots.proofs.find.slot_of.Reads as slot-of
-use Rattle.slots.proofs.find.lowest_free.Reads as lowest-free
+use Rattle.slots.proofs.find.lowest_free.Reads as lowest
 use Rattle.slots.proofs.find.state_at.Reads as state-at
 
 -- an outcome is told by its number
@@ -56,7 +56,7 @@ right-within-determined κs a r q e f p o = determined p o
 pub slot-of-determined : (κs : Lfts 0) (a r q e f : _) → slot-of.Post κs a r e → slot-of.Post κs a q f → r ≡ q
 slot-of-determined κs a r q e f p o = determined p o
 
-pub lowest-free-determined : (κs : Lfts 0) (a r q e f : _) → lowest-free.Post κs a r e → lowest-free.Post κs a q f → r ≡ q
+pub lowest-free-determined : (κs : Lfts 0) (a r q e f : _) → lowest.Post κs a r e → lowest.Post κs a q f → r ≡ q
 lowest-free-determined κs a r q e f p o = determined p o
 
 pub state-at-determined : (κs : Lfts 0) (a r q e f : _) → state-at.Post κs a r e → state-at.Post κs a q f → r ≡ q

@@ -9,13 +9,15 @@ returns : tie.Need-returns
 returns c =
     let told = c .before .before .enum-told .given in
     let carried = c .before .before .before .before .carried in
-    rw (c .no-packet .ensures, c .before .pcc .ensures, pcc-none _ _ _ (carried .result) (carried .ensures) (told .0 .0) (told .1))
+    let none = pcc-none _ _ _ (carried .result) (carried .ensures) (told .0 .0) (told .1) in
+    rw (c .no-packet .ensures, c .before .pcc .ensures, none)
 
 returns-2 : tie.Need-returns-2
 returns-2 c =
     let told = c .before .before .before .before .before .before .carried2 .given in
     let carried = c .before .before .before .before .before .before .before .before .carried in
-    rw (pcc-packet _ _ _ (carried .result) (carried .ensures) (told .0 .0) (told .0 .1 .0) (told .1), c .before .before .give .ensures, c .before .before .before .part .ensures)
+    let packet = pcc-packet _ _ _ (carried .result) (carried .ensures) (told .0 .0) (told .0 .1 .0) (told .1) in
+    rw (packet, c .before .before .give .ensures, c .before .before .before .part .ensures)
 
 pub from-pcc-spec : {M : Type 1} → statement M
 from-pcc-spec =

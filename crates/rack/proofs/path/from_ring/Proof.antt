@@ -11,25 +11,29 @@ returns : tie.Need-returns
 returns c =
     let read = c .before .before .before .before .before .read in
     let a = c .before .before .before .before .before .before .before .before .before .before .args in
-    let none = ring-none _ _ _ (a .flags) _ _ (a .out .now) _ (read .result) (read .ensures) (c .before .before .match .keys2) in
-    (rw (c .no-packet .ensures, c .before .ring .ensures, none), ring-output _ _ _ (a .flags) _ _ (a .out .now) _ (read .result) (read .ensures))
+    let tag = c .before .before .match .keys2 in
+    let none = ring-none _ _ _ (a .flags) _ _ (a .out .now) _ (read .result) (read .ensures) tag in
+    let output = ring-output _ _ _ (a .flags) _ _ (a .out .now) _ (read .result) (read .ensures) in
+    (rw (c .no-packet .ensures, c .before .ring .ensures, none), output)
 
 part-give-end : tie.Need-part-give-end
 part-give-end c =
     let read = c .before .before .before .before .before .before .before .read in
     let a = c .before .before .before .before .before .before .before .before .before .before .before .before .args in
     let told = c .before .before .before .taken .given in
-    let fits = ring-fits _ _ _ (a .flags) _ _ (a .out .now) _ (read .result) (read .ensures) (told .0 .0) (told .0 .1 .0) (told .1) in
+    let fits = ring-fits _ _ _ (a .flags) _ _ (a .out .now) _ (read .result) (read .ensures) _ _ (told .1) in
     omega (arith, read .kept .1 .1 .1 .1 .1 .0)
 
 returns-2 : tie.Need-returns-2
 returns-2 c =
-    let read = c .before .before .before .before .before .before .before .before .before .before .before .read in
-    let a = c .before .before .before .before .before .before .before .before .before .before .before .before .before .before .before .before .args in
     let told = c .before .before .before .before .before .before .before .taken .given in
+    let place = c .before .before .before .before .before .before .before .before .before in
+    let read = place .before .before .read in
+    let a = place .before .before .before .before .before .before .before .args in
     let carries = ring-carries _ _ _ (a .flags) _ _ (a .out .now) _ (read .result) (read .ensures) _ (told .1) in
-    let front = ring-front _ _ _ (a .flags) _ _ (a .out .now) _ (read .result) (read .ensures) (told .0 .0) (told .0 .1 .0) (told .1) in
-    (rw (carries, c .before .before .give .ensures, ← front, sub-zero (told .0 .0)), ring-output _ _ _ (a .flags) _ _ (a .out .now) _ (read .result) (read .ensures))
+    let front = ring-front _ _ _ (a .flags) _ _ (a .out .now) _ (read .result) (read .ensures) _ _ (told .1) in
+    let output = ring-output _ _ _ (a .flags) _ _ (a .out .now) _ (read .result) (read .ensures) in
+    (rw (carries, c .before .before .give .ensures, ← front, sub-zero (told .0 .0)), output)
 
 pub from-ring-spec : {M : Type 1} → statement M
 from-ring-spec =
