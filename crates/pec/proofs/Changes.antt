@@ -60,4 +60,5 @@ byte-changed s t a b other =
     (length-append s (a ∷ t) ∙ sym (length-append s (b ∷ t)))
     (front-bits s t a ∙ sym (front-bits s t b))
     (rest-bits s t a ∙ sym (rest-bits s t b))
-    (λ e. other (sym (getD-append-seam s a t 0) ∙ ap (λ (l : List ℕ). getD l (length s) 0) e ∙ getD-append-seam s b t 0))
+    (λ e. other
+    (sym (getD-append-seam s a t 0) ∙ ap (λ (l : List ℕ). getD l (length s) 0) e ∙ getD-append-seam s b t 0))

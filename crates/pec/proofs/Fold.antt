@@ -1,4 +1,4 @@
--- The remainder: what a step makes of its highest and of its lowest bit; it stays a byte, and it is worked out part by part.
+-- The remainder: what a step makes of its outermost bits; it stays a byte, and it is worked out part by part.
 -- Assumes nothing.
 use mathlib.Core.Path.{_≡_, refl}
 use mathlib.Core.List.{List, [], _∷_, _++_, foldl-append}

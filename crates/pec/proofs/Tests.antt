@@ -1,4 +1,4 @@
--- What a test that antt computes says: of two tests at once, of every number below a bound, and of every element of a list.
+-- What a test that antt computes says: of two tests at once, of every number below a bound, of every element.
 -- Assumes nothing.
 use mathlib.Core.Path.{_≡_}
 use mathlib.Core.Bool.{Bool, true, false, _&&_}

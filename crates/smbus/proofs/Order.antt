@@ -12,8 +12,8 @@ abbrev headed : ℕ → ℕ → ℕ → ℕ → List ℕ
 headed destination command count source =
     destination ∷ command ∷ count ∷ source ∷ 0x01 ∷ 0x09 ∷ 0x0A ∷ 0xC8 ∷ 0x00 ∷ 0x71 ∷ []
 
--- "Check order, reading: 1 (own address over 127), 3 (frame not 10 to 73 bytes), 4 (bit 0 set, or not ours), 5 (byte 1),
--- 6 (count + 4 not the frame's length), 7 (bit 0 of byte 3 clear), 8."
+-- "Check order, reading: 1 (own address over 127), 3 (frame not 10 to 73 bytes), 4 (bit 0 set, or not ours),
+-- 5 (byte 1), 6 (count + 4 not the frame's length), 7 (bit 0 of byte 3 clear), 8."
 pub record Reading : Type 0 where
   pub one-three : refusalOf 64 [] 128 ≡ 1
   pub three-four : refusalOf 64 (0x42 ∷ []) 32 ≡ 3

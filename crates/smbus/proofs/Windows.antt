@@ -1,4 +1,4 @@
--- The premise of the window law is met: three changes of document 01's good frame, each within eight neighbouring wire bits.
+-- The premise of the window law is met: three changes of document 01's good frame, each within eight wire bits.
 -- Assumes nothing.
 use mathlib.Core.Path.{_≡_, refl, ap}
 use mathlib.Core.List.{List, [], _∷_}
@@ -17,7 +17,8 @@ abbrev pub firstBit : List ℕ
 firstBit = 0xC0 ∷ 0x0F ∷ 0x06 ∷ 0x23 ∷ 0x01 ∷ 0x09 ∷ 0x0A ∷ 0xC8 ∷ 0x00 ∷ 0x71 ∷ []
 
 pub first-bit : WindowChange literalFrame firstBit
-first-bit = byte-changed [] (0x0F ∷ 0x06 ∷ 0x23 ∷ 0x01 ∷ 0x09 ∷ 0x0A ∷ 0xC8 ∷ 0x00 ∷ 0x71 ∷ []) 0x40 0xC0 (λ e. omega arith)
+first-bit =
+    byte-changed [] (0x0F ∷ 0x06 ∷ 0x23 ∷ 0x01 ∷ 0x09 ∷ 0x0A ∷ 0xC8 ∷ 0x00 ∷ 0x71 ∷ []) 0x40 0xC0 (λ e. omega arith)
 
 -- four bits on each side of the border between the last body byte and the PEC: 00 71 made 0F 81
 abbrev pub acrossBorder : List ℕ
@@ -33,10 +34,12 @@ abbrev pub otherPec : List ℕ
 otherPec = 0x40 ∷ 0x0F ∷ 0x06 ∷ 0x23 ∷ 0x01 ∷ 0x09 ∷ 0x0A ∷ 0xC8 ∷ 0x00 ∷ 0x8E ∷ []
 
 pub other-pec : WindowChange literalFrame otherPec
-other-pec = byte-changed (0x40 ∷ 0x0F ∷ 0x06 ∷ 0x23 ∷ 0x01 ∷ 0x09 ∷ 0x0A ∷ 0xC8 ∷ 0x00 ∷ []) [] 0x71 0x8E (λ e. omega arith)
+other-pec =
+    byte-changed (0x40 ∷ 0x0F ∷ 0x06 ∷ 0x23 ∷ 0x01 ∷ 0x09 ∷ 0x0A ∷ 0xC8 ∷ 0x00 ∷ []) [] 0x71 0x8E (λ e. omega arith)
 
 -- so the law speaks of them: none is good at any address
-refused : (changed : List ℕ) → Bytes changed → WindowChange literalFrame changed → (own : ℕ) → refusalOf 64 changed own ≡ 0 → ⊥
+refused : (changed : List ℕ) → Bytes changed → WindowChange literalFrame changed
+    → (own : ℕ) → refusalOf 64 changed own ≡ 0 → ⊥
 refused changed bytes change own =
     window-refused literalFrame changed (all-bytes literalFrame tt) bytes change 64 32 literal-good 64 own
 

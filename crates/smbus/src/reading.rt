@@ -50,8 +50,8 @@ pub fn carried(frame: &[u8], own: u8) -> Carried
     carried_within(mctp::LARGEST_BODY, frame, own)
 }
 
-// The bytes where a packet stands, also of a frame that is refused: who has not asked `carried` gets bytes that no check
-// let through. It is `packet` that is empty where refused.
+// The bytes where a packet stands, also of a frame that is refused: who has not asked `carried` gets bytes
+// that no check let through. It is `packet` that is empty where refused.
 pub fn part(frame: &[u8]) -> &[u8]
     ensures { λ r. ⌜ now r ≡ partOf (now (frame .entry)) ⌝ }
 {

@@ -36,8 +36,8 @@ unfolding lastLine
 returns-2 c =
     let a = c .before .before .before .before .before .before .before .before .before .before .args in
     let size = last-size (a .arrivals) (a .packets) in
-    let placed =
-    put-placed (a .out .now) (a .at) (lastLine (a .arrivals) (a .packets)) (omega arith) (c .before .before .lay-pair .ensures) in
+    let line = lastLine (a .arrivals) (a .packets) in
+    let placed = put-placed (a .out .now) (a .at) line (omega arith) (c .before .before .lay-pair .ensures) in
     search needs
 
 returns-3 : tie.Need-returns-3
