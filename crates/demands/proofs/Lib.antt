@@ -3,6 +3,7 @@ pub mod Outputs
 pub mod Arrivals
 pub mod CutRings
 pub mod Demands
+pub mod Calls
 pub mod Checked
 pub mod Steps
 pub mod Useless

@@ -1,0 +1,103 @@
+-- What the demands speak of is what the calls promise: the contract of each call that no other crate's proof needs, said over its
+-- own arguments. (rack's `from-..-arrives` and messages' `Said` do the same for arrivals, `give`, `free` and `message`.) A contract
+-- that is wrong with its code alone would still leave no choice; here it meets the demands' definition.
+-- Assumes nothing.
+use mathlib.Core.Path.{_≡_}
+use contract.Lifetimes.{Lfts}
+use denote.Ref.{now}
+use lib.ListN.{length}
+use Rattle.smbus.specs.Answers.{saysWritten, writtenOf}
+use Rattle.smbus.specs.Reading as smbus
+use Rattle.smbus.specs.Writing as frames
+use Rattle.smbus.proofs.packet.Reads as smbus-packet
+use Rattle.smbus.proofs.refusal.Reads as smbus-refusal
+use Rattle.smbus.proofs.source.Reads as smbus-source
+use Rattle.smbus.proofs.write.Reads as smbus-write
+use Rattle.pcc.specs.Answers.{numberWritten}
+use Rattle.pcc.specs.Reading as pcc
+use Rattle.pcc.specs.Writing as regions
+use Rattle.pcc.proofs.packet.Reads as pcc-packet
+use Rattle.pcc.proofs.refusal.Reads as pcc-refusal
+use Rattle.pcc.proofs.notify.Reads as pcc-notify
+use Rattle.pcc.proofs.write.Reads as pcc-write
+use Rattle.mmbi.specs.Interface.{stateOf, mayWrite}
+use Rattle.ring.specs.Writing as putting
+use Rattle.ring.proofs.write.Reads as ring-write
+use Rattle.descriptor.specs.Answers.{says}
+use Rattle.descriptor.specs.Descriptor.{outcomeOf}
+use Rattle.descriptor.proofs.read_descriptor.Reads as read-descriptor
+use Rattle.window.specs.Window.{setupOf, placeIn, partOf, interfaceIn, storeRefusal, stored, storedPointer}
+use Rattle.window.proofs.refusal.Reads as window-refusal
+use Rattle.window.proofs.place_of.Reads as place-of
+use Rattle.window.proofs.cut.Reads as cut
+use Rattle.window.proofs.look.Reads as look
+use Rattle.window.proofs.store.Reads as store
+use Rattle.window.proofs.store_pointer.Reads as store-pointer
+
+-- SMBus: a frame and the own address; an output, a packet, the destination's and the source's address
+pub smbus-packet-is : (κs : Lfts 1) (a r e : _) → smbus-packet.Post κs a r e → now r
+    ≡ smbus.packetOf 64 (a .0 .now) (a .1 .0)
+smbus-packet-is κs a r e p = p
+
+pub smbus-refusal-is : (κs : Lfts 1) (a r e : _) → smbus-refusal.Post κs a r e → r
+    ≡ smbus.refusalOf 64 (a .0 .now) (a .1 .0)
+smbus-refusal-is κs a r e p = p
+
+pub smbus-source-is : (κs : Lfts 1) (a r e : _) → smbus-source.Post κs a r e
+    → r ≡ smbus.sourceAddressOf 64 (a .0 .now) (a .1 .0)
+smbus-source-is κs a r e p = p
+
+pub smbus-write-is : (κs : Lfts 2) (a r e : _) → smbus-write.Post κs a r e
+    → (saysWritten r ≡ writtenOf 64 (length (a .0 .now)) (length (a .1 .0 .now)) (a .1 .1 .0) (a .1 .1 .1 .0))
+    × (e .0 .now ≡ frames.outputOf 64 (a .0 .now) (a .1 .0 .now) (a .1 .1 .0) (a .1 .1 .1 .0))
+smbus-write-is κs a r e p = (p .0, p .1)
+
+-- PCC: a region and its id; a region, its id, the notify flag and a packet
+pub pcc-packet-is : (κs : Lfts 1) (a r e : _) → pcc-packet.Post κs a r e → now r ≡ pcc.packetOf 64 (a .0 .now) (a .1 .0)
+pcc-packet-is κs a r e p = p
+
+pub pcc-refusal-is : (κs : Lfts 1) (a r e : _) → pcc-refusal.Post κs a r e → r ≡ pcc.refusalOf 64 (a .0 .now) (a .1 .0)
+pcc-refusal-is κs a r e p = p
+
+pub pcc-notify-is : (κs : Lfts 1) (a r e : _) → pcc-notify.Post κs a r e → r ≡ pcc.notifyOf 64 (a .0 .now) (a .1 .0)
+pcc-notify-is κs a r e p = p
+
+pub pcc-write-is : (κs : Lfts 2) (a r e : _) → pcc-write.Post κs a r e
+    → (numberWritten r ≡ regions.writeRefusal 64 (length (a .0 .now)) (a .1 .0) (length (a .1 .1 .1 .0 .now)))
+    × (e .0 .now ≡ regions.writtenOf 64 (a .0 .now) (a .1 .0) (a .1 .1 .0) (a .1 .1 .1 .0 .now))
+pcc-write-is κs a r e p = (p .0, p .1)
+
+-- the ring: its bytes, the configured length, the flags, the read and the write pointer, and a packet
+pub ring-write-is : (κs : Lfts 2) (a r e : _) → ring-write.Post κs a r e
+    → putting.left (putting.saidOf r) (e .0 .now)
+    ≡ putting.writeOf 64 (a .0 .now) (a .1 .0) (mayWrite (stateOf (a .1 .1 .0))) (a .1 .1 .1 .0) (a .1 .1 .1 .1 .0)
+    (a .1 .1 .1 .1 .1 .0 .now)
+ring-write-is κs a r e p = p
+
+-- the window, by itself; with a configuration, and then a part, or a word's place with a word or a pointer
+pub read-descriptor-is : (κs : Lfts 1) (a r e : _) → read-descriptor.Post κs a r e → says r ≡ outcomeOf (a .0 .now)
+read-descriptor-is κs a r e p = p
+
+pub window-refusal-is : (κs : Lfts 1) (a r e : _) → window-refusal.Post κs a r e → r
+    ≡ setupOf (length (a .0 .now)) (a .1 .0)
+window-refusal-is κs a r e p = p
+
+pub place-of-is : (κs : Lfts 1) (a r e : _) → place-of.Post κs a r e → r
+    ≡ placeIn (length (a .0 .now)) (a .1 .0) (a .1 .1 .0)
+place-of-is κs a r e p = p
+
+pub cut-is : (κs : Lfts 1) (a r e : _) → cut.Post κs a r e → now r ≡ partOf (a .0 .now) (a .1 .0) (a .1 .1 .0)
+cut-is κs a r e p = p
+
+pub look-is : (κs : Lfts 1) (a r e : _) → look.Post κs a r e → r ≡ interfaceIn (a .0 .now) (a .1 .0)
+look-is κs a r e p = p
+
+pub store-is : (κs : Lfts 1) (a r e : _) → store.Post κs a r e
+    → (r ≡ storeRefusal (length (a .0 .now)) (a .1 .0) (a .1 .1 .0) (a .1 .1 .1 .0 .pointer))
+    × (e .0 .now ≡ stored (a .0 .now) (a .1 .0) (a .1 .1 .0) (a .1 .1 .1 .0))
+store-is κs a r e p = p
+
+pub store-pointer-is : (κs : Lfts 1) (a r e : _) → store-pointer.Post κs a r e
+    → (r ≡ storeRefusal (length (a .0 .now)) (a .1 .0) (a .1 .1 .0) (a .1 .1 .1 .0))
+    × (e .0 .now ≡ storedPointer (a .0 .now) (a .1 .0) (a .1 .1 .0) (a .1 .1 .1 .0))
+store-pointer-is κs a r e p = p
