@@ -2,7 +2,7 @@
 -- Assumes nothing.
 use mathlib.Core.Path.{_≡_, refl, ap, sym, subst, _∙_}
 use mathlib.Core.Bool.{Bool, true, false}
-use mathlib.Core.List.{List, [], _∷_, _++_}
+use mathlib.Core.List.{List, _++_}
 use Prim.Native.Nat.{ℕ, _+_, _-_, _≤_}
 use native.Mathlib.Omega.{arith}
 use borrow.Author.Tests.{eq-eqb}
@@ -11,7 +11,7 @@ use lib.ListN.{length, take, drop, replicate}
 use lib.Seq.{take-at}
 use Rattle.octets.specs.Bytes.{Below, fronted}
 use Rattle.octets.specs.Words.{highFirst, wordBytes}
-use Rattle.octets.proofs.Below.{below-append, below-take, below-drop, below-zeros, below-word}
+use Rattle.octets.proofs.Below.{below-append, below-drop, below-zeros, below-word}
 use Rattle.octets.proofs.Choice.{within-bounds}
 use Rattle.mctp.specs.Packet.{packetSize}
 use Rattle.mctp.specs.Key.{keyOf}
@@ -47,7 +47,7 @@ use Rattle.receiver.proofs.Laws.{refused-unchanged, refused-freed}
 use Rattle.rack.specs.declared.answer.Known.{Known}
 use Rattle.rack.specs.declared.answer.Known.the-variants.{Source, Notify, Next}
 use Rattle.rack.specs.Arrivals.{Arrival, Carried, Without, packet, none, carries, smbusCarries, pccCarries, ringCarries}
-use Rattle.rack.specs.Answers.{Told, given, nothing, Left, arrivedOf}
+use Rattle.rack.specs.Answers.{given, nothing, arrivedOf}
 use Rattle.rack.proofs.Carriers.{ring-carries, ring-front}
 
 module _ (most : ℕ) (r : Receiver) (m : List ℕ) where

@@ -56,7 +56,7 @@ use Rattle.messages.proofs.Acceptance.{acceptance, single-accepted}
 use Rattle.rack.specs.declared.answer.Known.{Known}
 use Rattle.rack.specs.declared.answer.Known.the-variants.{Source, Notify, Next}
 use Rattle.rack.specs.Arrivals.{Arrival, bySmbus, byPcc, byRing, Without, packet, none, carries, ringCarries}
-use Rattle.rack.specs.Answers.{Left, given, nothing}
+use Rattle.rack.specs.Answers.{given, nothing}
 use Rattle.demands.specs.Presenting.{arrival, present, packetsOf}
 use Rattle.demands.proofs.Arrivals as good
 use Rattle.demands.proofs.CutRings.{cut-ring-right, write-stays}
@@ -114,7 +114,7 @@ cut-ring-is-never-1 window c part is e running read write n =
       put-not-1 64 (length (partOf window c part)) (partPlace c part .length) running read write n right,
     )
 
--- what is written to it changes that ring alone: descriptor, words and the other ring stay
+-- what is written to it changes that ring alone: descriptor, structures with their words, and the other ring stay
 pub a-write-stays-in-its-ring : (window : List ℕ) (c : Configuration) (part : Part) → isRing part ≡ true
     → outcomeOf window ≡ found c
     → (configured : ℕ) (running : Bool) (read write : ℕ) (p : List ℕ)

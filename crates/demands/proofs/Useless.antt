@@ -21,7 +21,7 @@ use Rattle.slots.specs.Slots.{slotAt, isFree}
 use Rattle.receiver.specs.Step as rules
 use Rattle.rack.specs.declared.answer.Known.{Known}
 use Rattle.rack.specs.Arrivals.{Arrival, bySmbus, byPcc, byRing, Carried, Without, packet, carries}
-use Rattle.rack.specs.Answers.{Told, given, nothing, Left, arrivedOf}
+use Rattle.rack.specs.Answers.{given, nothing, Left, arrivedOf}
 use Rattle.transcript.specs.declared.state.State.{State}
 use Rattle.transcript.specs.Frame.{start, oneMore, withPacket, frameOf}
 use Rattle.transcript.specs.Transcript as transcript

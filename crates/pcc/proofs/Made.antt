@@ -10,7 +10,7 @@ use Rattle.octets.specs.Bytes.{Below}
 use Rattle.octets.specs.Words.{lowFirst, wordAt, wordBytes}
 use Rattle.octets.proofs.Words.{bytes-back}
 use Rattle.pcc.specs.Region.{signatureOf, lengthOf, command, regionWith}
-use Rattle.pcc.specs.Reading.{refusalOf, sizeOf, partOf, packetOf, Good}
+use Rattle.pcc.specs.Reading.{refusalOf, sizeOf, packetOf, Good}
 use Rattle.pcc.proofs.Reading.{good}
 
 -- four bytes, and then what stands behind them

@@ -8,7 +8,7 @@ use native.Mathlib.Omega.{arith}
 use lib.ListN.{length, take, drop, length-take, length-drop}
 use lib.Seq.{take-add, drop-drop}
 use Rattle.octets.specs.Bytes.{Below}
-use Rattle.octets.specs.Words.{highFirst, wordAt, wordBytes}
+use Rattle.octets.specs.Words.{highFirst, wordBytes}
 use Rattle.octets.proofs.Below.{below-append, below-take, below-drop}
 use Rattle.octets.proofs.Words.{bytes-back}
 use Rattle.ring.specs.Numbers.{filledOf, nextOf}

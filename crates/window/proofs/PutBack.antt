@@ -1,6 +1,6 @@
 -- A ring lent out of a window comes back with other bytes, as many: descriptor, words and the other ring stay.
 -- Assumes nothing.
-use mathlib.Core.Path.{_≡_, refl, sym, ap, _∙_}
+use mathlib.Core.Path.{_≡_, refl, ap, _∙_}
 use mathlib.Core.Bool.{true, false≢true}
 use mathlib.Core.List.{List, _++_}
 use mathlib.Core.Logic.{_⊎_, inl, inr, ⊎-elim}
@@ -8,34 +8,34 @@ use Prim.Native.Nat.{ℕ, _+_, _≤_}
 use native.Mathlib.Omega.{arith}
 use lib.ListN.{length, take, drop}
 use lib.Seq.{length-take-le, take-at, drop-at}
-use Rattle.octets.specs.Words.{highFirst, wordAt}
+use Rattle.octets.specs.Words.{highFirst}
 use Rattle.octets.proofs.Laid.{laid-fits, laid-length}
 use Rattle.descriptor.specs.declared.configuration.Configuration.{Configuration}
 use Rattle.descriptor.specs.declared.configuration.Part.{Part}
 use Rattle.descriptor.specs.declared.configuration.Part.the-variants.{B2h, H2b, Ros, Rws}
 use Rattle.descriptor.specs.Places.{Apart}
-use Rattle.descriptor.specs.Configuration.{partPlace, isRing, allowed, Allowed, Clear, RingRight}
+use Rattle.descriptor.specs.Configuration.{partPlace, isRing, allowed, Allowed, RingRight}
 use Rattle.descriptor.proofs.Configurations.{allowed-facts}
 use Rattle.window.specs.declared.word.Pointer.{Pointer}
 use Rattle.window.specs.declared.word.Pointer.the-variants.{H2bWrite, B2hRead, B2hWrite, H2bRead}
-use Rattle.window.specs.Window.{placeIn, bytesAt, partOf, putBack, wordPlace, wordIn, interfaceIn, RingChanged}
+use Rattle.window.specs.Window.{placeIn, partOf, putBack, wordPlace, wordIn, interfaceIn, RingChanged}
 use Rattle.window.proofs.LaidWords.{laid-beside, laid-word-beside}
 use Rattle.window.proofs.Parts.{part-fits, ring-right}
 use Rattle.window.proofs.Stores.{ring-clear, beside}
 
--- the two rings are apart, whichever is named first
-rings-apart : (window : ℕ) (c : Configuration) (ring other : Part) → isRing ring ≡ true → isRing other ≡ true
-    → (other ≡ ring → ⊥) → Allowed window c → Apart (partPlace c ring) (partPlace c other)
-rings-apart window c B2h B2h r o e a = absurd (e refl)
-rings-apart window c B2h H2b r o e a = a .rings
-rings-apart window c B2h Ros r o e a = absurd (false≢true o)
-rings-apart window c B2h Rws r o e a = absurd (false≢true o)
-rings-apart window c H2b B2h r o e a = ⊎-elim (λ (h : _). inr h) (λ (h : _). inl h) (a .rings)
-rings-apart window c H2b H2b r o e a = absurd (e refl)
-rings-apart window c H2b Ros r o e a = absurd (false≢true o)
-rings-apart window c H2b Rws r o e a = absurd (false≢true o)
-rings-apart window c Ros other r o e a = absurd (false≢true r)
-rings-apart window c Rws other r o e a = absurd (false≢true r)
+-- a ring is apart from every other part
+parts-apart : (window : ℕ) (c : Configuration) (ring other : Part) → isRing ring ≡ true → (other ≡ ring → ⊥)
+    → Allowed window c → Apart (partPlace c ring) (partPlace c other)
+parts-apart window c B2h B2h r e a = absurd (e refl)
+parts-apart window c B2h H2b r e a = a .rings
+parts-apart window c B2h Ros r e a = a .b2h-clear .ros
+parts-apart window c B2h Rws r e a = a .b2h-clear .rws
+parts-apart window c H2b B2h r e a = ⊎-elim (λ (h : _). inr h) (λ (h : _). inl h) (a .rings)
+parts-apart window c H2b H2b r e a = absurd (e refl)
+parts-apart window c H2b Ros r e a = a .h2b-clear .ros
+parts-apart window c H2b Rws r e a = a .h2b-clear .rws
+parts-apart window c Ros other r e a = absurd (false≢true r)
+parts-apart window c Rws other r e a = absurd (false≢true r)
 
 module _ (s : List ℕ) (c : Configuration) (ring : Part) (bytes : List ℕ) (is : isRing ring ≡ true)
     (ok : allowed (length s) c ≡ true) (fits : length bytes ≡ partPlace c ring .length) where
@@ -67,13 +67,12 @@ module _ (s : List ℕ) (c : Configuration) (ring : Part) (bytes : List ℕ) (is
   unfolding interfaceIn
   words-stay = rw (word-stays H2bWrite, word-stays B2hRead, word-stays B2hWrite, word-stays H2bRead)
 
-  -- the other ring
-  other-ring-stays : (other : Part) → isRing other ≡ true → (other ≡ ring → ⊥)
-      → partOf (putBack s c ring bytes) c other ≡ partOf s c other
+  -- both structures and the other ring
+  others-stay : (other : Part) → (other ≡ ring → ⊥) → partOf (putBack s c ring bytes) c other ≡ partOf s c other
   unfolding partOf placeIn
-  other-ring-stays other o e =
+  others-stay other e =
       let q = partPlace c other in
-      let apart = rings-apart (length s) c ring other is o e facts in
+      let apart = parts-apart (length s) c ring other is e facts in
       rw (kept-length, ok)
       (laid-beside s (partPlace c ring .offset) bytes (q .offset) (q .length)
       (⊎-elim (λ (h : _). inl (omega (arith, fits))) (λ (h : _). inr h) apart))
@@ -92,5 +91,4 @@ module _ (s : List ℕ) (c : Configuration) (ring : Part) (bytes : List ℕ) (is
       ∙ take-at bytes rest n fits)
 
   pub put-back : RingChanged s c ring bytes
-  put-back =
-      record { descriptor = descriptor-stays; words = words-stay; other-ring = other-ring-stays; itself = ring-is-back }
+  put-back = record { descriptor = descriptor-stays; others = others-stay; words = words-stay; itself = ring-is-back }

@@ -13,7 +13,7 @@ use Rattle.mmbi.specs.declared.word.Word.{Word}
 use Rattle.mmbi.specs.Interface.{flagsOf}
 use Rattle.mmbi.specs.Pointers.{pointerRight}
 use Rattle.mmbi.specs.Words.{wordOf, numberOf}
-use Rattle.descriptor.specs.Configuration.{partPlace, isRing, allowed}
+use Rattle.descriptor.specs.Configuration.{partPlace, allowed}
 use Rattle.descriptor.specs.declared.place.Place.{Place}
 use Rattle.descriptor.specs.declared.configuration.Configuration.{Configuration}
 use Rattle.descriptor.specs.declared.configuration.Part.{Part}
@@ -98,10 +98,9 @@ stored s c p w =
 unfoldable pub storedPointer : List ℕ → Configuration → Pointer → ℕ → List ℕ
 storedPointer s c p at = stored s c p (record { pointer = at; high = wordIn s c p .high; low = wordIn s c p .low })
 
--- a ring with other bytes, and all else in the window as it was
+-- a ring with other bytes, and the window else as it was: the descriptor, both structures and the other ring
 pub record RingChanged (s : List ℕ) (c : Configuration) (ring : Part) (bytes : List ℕ) : Type 0 where
   pub descriptor : take 64 (putBack s c ring bytes) ≡ take 64 s
+  pub others : (other : Part) → (other ≡ ring → ⊥) → partOf (putBack s c ring bytes) c other ≡ partOf s c other
   pub words : interfaceIn (putBack s c ring bytes) c ≡ interfaceIn s c
-  pub other-ring : (other : Part) → isRing other ≡ true → (other ≡ ring → ⊥) → partOf (putBack s c ring bytes) c other
-      ≡ partOf s c other
   pub itself : partOf (putBack s c ring bytes) c ring ≡ bytes

@@ -1,12 +1,9 @@
 -- `window::word::refusal_to_store` meets its contract.
 -- Assumes nothing.
-use mathlib.Core.Path.{_≡_, sym, _∙_}
-use mathlib.Core.Bool.{true, false}
+use mathlib.Core.Path.{sym, _∙_}
 use borrow.Author.Needs.{needs}
 use borrow.Author.Tests.{not-true, not-false}
-use Rattle.mmbi.specs.Pointers.{pointerRight}
-use Rattle.descriptor.specs.Configuration.{partPlace, allowed}
-use Rattle.window.specs.Window.{pointsInto, storeRefusal}
+use Rattle.window.specs.Window.{storeRefusal}
 use Rattle.window.proofs.word.refusal_to_store.Statement.{statement}
 use Rattle.window.proofs.word.refusal_to_store.Tie as tie
 
