@@ -27,3 +27,8 @@ decide-determined κs a r q e f p o = planned-injective r q (determined p o)
 
 pub decide-within-determined : (κs : Lfts 1) (a r q e f : _) → within.Post κs a r e → within.Post κs a q f → r ≡ q
 decide-within-determined κs a r q e f p o = planned-injective r q (determined p o)
+
+-- No call asks anything of its arguments first.
+pub no-requires : ((κs : Lfts 1) (a : _) → decide.Pre κs a)
+    × ((κs : Lfts 1) (a : _) → within.Pre κs a)
+no-requires = ((λ κs a. tt), (λ κs a. tt))

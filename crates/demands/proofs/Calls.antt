@@ -20,12 +20,15 @@ use Rattle.pcc.proofs.packet.Reads as pcc-packet
 use Rattle.pcc.proofs.refusal.Reads as pcc-refusal
 use Rattle.pcc.proofs.notify.Reads as pcc-notify
 use Rattle.pcc.proofs.write.Reads as pcc-write
-use Rattle.mmbi.specs.Interface.{stateOf, mayWrite}
+use Rattle.mmbi.specs.Interface.{stateOf, isTransient, mayWrite}
+use Rattle.mmbi.proofs.transient.Reads as transient
 use Rattle.ring.specs.Writing as putting
 use Rattle.ring.proofs.write.Reads as ring-write
 use Rattle.descriptor.specs.Answers.{says}
 use Rattle.descriptor.specs.Descriptor.{outcomeOf}
 use Rattle.descriptor.proofs.read_descriptor.Reads as read-descriptor
+use Rattle.slots.specs.Changes.{keeps, setUpOf}
+use Rattle.slots.proofs.set_up.Reads as set-up
 use Rattle.window.specs.Window.{setupOf, placeIn, partOf, interfaceIn, storeRefusal, stored, storedPointer}
 use Rattle.window.proofs.refusal.Reads as window-refusal
 use Rattle.window.proofs.place_of.Reads as place-of
@@ -101,3 +104,10 @@ pub store-pointer-is : (κs : Lfts 1) (a r e : _) → store-pointer.Post κs a r
     → (r ≡ storeRefusal (length (a .0 .now)) (a .1 .0) (a .1 .1 .0) (a .1 .1 .1 .0))
     × (e .0 .now ≡ storedPointer (a .0 .now) (a .1 .0) (a .1 .1 .0) (a .1 .1 .1 .0))
 store-pointer-is κs a r e p = p
+
+-- the interface's state; an own EID
+pub transient-is : (κs : Lfts 0) (a r e : _) → transient.Post κs a r e → r ≡ isTransient (a .0)
+transient-is κs a r e p = p
+
+pub set-up-is : (κs : Lfts 0) (a r e : _) → set-up.Post κs a r e → keeps r ≡ setUpOf (record { own = a .0 })
+set-up-is κs a r e p = p

@@ -38,3 +38,10 @@ part-place-determined κs a r q e f p o = determined p o
 
 pub end-determined : (κs : Lfts 0) (a : _) (r q : ℕ) (e f : _) → end.Post κs a r e → end.Post κs a q f → r ≡ q
 end-determined κs a r q e f p o = determined p o
+
+-- No call asks anything of its arguments first.
+pub no-requires : ((κs : Lfts 1) (a : _) → read-descriptor.Pre κs a)
+    × ((κs : Lfts 0) (a : _) → is-allowed.Pre κs a)
+    × ((κs : Lfts 0) (a : _) → part-place.Pre κs a)
+    × ((κs : Lfts 0) (a : _) → end.Pre κs a)
+no-requires = ((λ κs a. tt), (λ κs a. tt), (λ κs a. tt), (λ κs a. tt))

@@ -46,3 +46,14 @@ same-key-determined κs a r q e f p o = determined p o
 
 pub number-determined : (κs : Lfts 0) (a : _) (r q : ℕ) (e f : _) → number.Post κs a r e → number.Post κs a q f → r ≡ q
 number-determined κs a r q e f p o = determined p o
+
+-- No call asks anything of its arguments first.
+pub no-requires : ((κs : Lfts 0) (a : _) → is-null.Pre κs a)
+    × ((κs : Lfts 0) (a : _) → is-broadcast.Pre κs a)
+    × ((κs : Lfts 0) (a : _) → is-reserved.Pre κs a)
+    × ((κs : Lfts 0) (a : _) → is-endpoint.Pre κs a)
+    × ((κs : Lfts 1) (a : _) → key-of.Pre κs a)
+    × ((κs : Lfts 1) (a : _) → header-of.Pre κs a)
+    × ((κs : Lfts 0) (a : _) → same-key.Pre κs a)
+    × ((κs : Lfts 0) (a : _) → number.Pre κs a)
+no-requires = ((λ κs a. tt), (λ κs a. tt), (λ κs a. tt), (λ κs a. tt), (λ κs a. tt), (λ κs a. tt), (λ κs a. tt), (λ κs a. tt))

@@ -41,3 +41,13 @@ number-determined κs a r q e f p o = determined p o
 pub pointer-right-determined : (κs : Lfts 0) (a : _) (r q : Bool) (e f : _)
     → pointer-right.Post κs a r e → pointer-right.Post κs a q f → r ≡ q
 pointer-right-determined κs a r q e f p o = determined p o
+
+-- No call asks anything of its arguments first.
+pub no-requires : ((κs : Lfts 0) (a : _) → state.Pre κs a)
+    × ((κs : Lfts 0) (a : _) → transient.Pre κs a)
+    × ((κs : Lfts 0) (a : _) → may-read.Pre κs a)
+    × ((κs : Lfts 0) (a : _) → may-write.Pre κs a)
+    × ((κs : Lfts 0) (a : _) → pointer-right.Pre κs a)
+    × ((κs : Lfts 0) (a : _) → of-number.Pre κs a)
+    × ((κs : Lfts 0) (a : _) → number.Pre κs a)
+no-requires = ((λ κs a. tt), (λ κs a. tt), (λ κs a. tt), (λ κs a. tt), (λ κs a. tt), (λ κs a. tt), (λ κs a. tt))

@@ -39,3 +39,13 @@ lay-low-first-determined κs a r q e f p o = determined p o
 pub lay-high-first-determined : (κs : Lfts 1) (a r q e f : _)
     → lay-high-first.Post κs a r e → lay-high-first.Post κs a q f → e .0 .now ≡ f .0 .now
 lay-high-first-determined κs a r q e f p o = determined p o
+
+-- No call asks anything of its arguments first.
+pub no-requires : ((κs : Lfts 1) (a : _) → byte-at.Pre κs a)
+    × ((κs : Lfts 1) (a : _) → word-low-first.Pre κs a)
+    × ((κs : Lfts 1) (a : _) → word-high-first.Pre κs a)
+    × ((κs : Lfts 1) (a : _) → lay-byte.Pre κs a)
+    × ((κs : Lfts 2) (a : _) → lay.Pre κs a)
+    × ((κs : Lfts 1) (a : _) → lay-low-first.Pre κs a)
+    × ((κs : Lfts 1) (a : _) → lay-high-first.Pre κs a)
+no-requires = ((λ κs a. tt), (λ κs a. tt), (λ κs a. tt), (λ κs a. tt), (λ κs a. tt), (λ κs a. tt), (λ κs a. tt))

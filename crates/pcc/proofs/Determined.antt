@@ -54,3 +54,12 @@ notify-determined κs a r q e f p o = determined p o
 pub write-determined : (κs : Lfts 2) (a r q e f : _) → writing.Post κs a r e → writing.Post κs a q f
     → (r ≡ q) × (e .0 .now ≡ f .0 .now)
 write-determined κs a r q e f p o = (written-injective r q (determined (p .0) (o .0)), determined (p .1) (o .1))
+
+-- No call asks anything of its arguments first.
+pub no-requires : ((κs : Lfts 1) (a : _) → carrying.Pre κs a)
+    × ((κs : Lfts 1) (a : _) → packet.Pre κs a)
+    × ((κs : Lfts 1) (a : _) → refusal.Pre κs a)
+    × ((κs : Lfts 1) (a : _) → notify.Pre κs a)
+    × ((κs : Lfts 1) (a : _) → part.Pre κs a)
+    × ((κs : Lfts 2) (a : _) → writing.Pre κs a)
+no-requires = ((λ κs a. tt), (λ κs a. tt), (λ κs a. tt), (λ κs a. tt), (λ κs a. tt), (λ κs a. tt))

@@ -74,3 +74,9 @@ pub from-ring-determined : (κs : Lfts 3) (a r q e f : _) → ring.Post κs a r 
     → ((r ≡ q) × (e .1 .1 .1 .1 .1 .1 .1 .0 .now ≡ f .1 .1 .1 .1 .1 .1 .1 .0 .now))
     × (e .1 .1 .1 .1 .1 .0 .now ≡ f .1 .1 .1 .1 .1 .0 .now)
 from-ring-determined κs a r q e f p o = (left-injective r q _ _ (determined (p .0) (o .0)), determined (p .1) (o .1))
+
+-- No call asks anything of its arguments first.
+pub no-requires : ((κs : Lfts 2) (a : _) → smbus.Pre κs a)
+    × ((κs : Lfts 2) (a : _) → pcc.Pre κs a)
+    × ((κs : Lfts 3) (a : _) → ring.Pre κs a)
+no-requires = ((λ κs a. tt), (λ κs a. tt), (λ κs a. tt))

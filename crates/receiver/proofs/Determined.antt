@@ -28,3 +28,7 @@ give-determined κs a r q e f p o =
     let same : left r (e .1 .0 .now) ≡ left q (f .1 .0 .now) = determined p o in
     let answer = says-injective (r .answer) (q .answer) (ap (λ (l : Left). l .said) same) in
     ((λ i. record { answer = answer i; receiver = same i .receiver }), ap (λ (l : Left). l .memory) same)
+
+-- No call asks anything of its arguments first.
+pub no-requires : (κs : Lfts 2) (a : _) → give.Pre κs a
+no-requires κs a = tt

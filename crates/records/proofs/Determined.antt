@@ -28,3 +28,11 @@ put-line-determined κs a r q e f p o = (determined (p .0) (o .0), determined (p
 pub put-last-line-determined : (κs : Lfts 1) (a : _) (r q : ℕ) (e f : _) → last.Post κs a r e → last.Post κs a q f
     → (r ≡ q) × (e .0 .now ≡ f .0 .now)
 put-last-line-determined κs a r q e f p o = (determined (p .0) (o .0), determined (p .1) (o .1))
+
+-- No call asks anything of its arguments first.
+pub no-requires : ((κs : Lfts 1) (a : _) → at.Pre κs a)
+    × ((κs : Lfts 0) (a : _) → digits.Pre κs a)
+    × ((κs : Lfts 1) (a : _) → decimal.Pre κs a)
+    × ((κs : Lfts 1) (a : _) → line.Pre κs a)
+    × ((κs : Lfts 1) (a : _) → last.Pre κs a)
+no-requires = ((λ κs a. tt), (λ κs a. tt), (λ κs a. tt), (λ κs a. tt), (λ κs a. tt))

@@ -60,3 +60,8 @@ pub write-determined : (κs : Lfts 2) (a : _) (r q : Put) (e f : _) → write.Po
 write-determined κs a r q e f p o =
     let same = determined p o in
     (put-injective r q (ap (λ (l : writing.Left). l .says) same), ap (λ (l : writing.Left). l .ring) same)
+
+-- No call asks anything of its arguments first.
+pub no-requires : ((κs : Lfts 2) (a : _) → read.Pre κs a)
+    × ((κs : Lfts 2) (a : _) → write.Pre κs a)
+no-requires = ((λ κs a. tt), (λ κs a. tt))

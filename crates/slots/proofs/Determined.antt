@@ -70,3 +70,15 @@ right-is-freed κs a e p i r f h o = o ∙ freed-good 64 (a .0) i (sym p) h
 pub wrong-is-kept : (κs : Lfts 0) (a e : _) → right.Post κs a false e → (i : ℕ) (r f : _)
     → free.Post κs (a .0, (i, tt)) r f → keeps r ≡ record { number = 1; receiver = a .0 }
 wrong-is-kept κs a e p i r f o = o ∙ freed-wrong 64 (a .0) i (sym p)
+
+-- No call asks anything of its arguments first.
+pub no-requires : ((κs : Lfts 0) (a : _) → set-up.Pre κs a)
+    × ((κs : Lfts 0) (a : _) → free.Pre κs a)
+    × ((κs : Lfts 0) (a : _) → with-state.Pre κs a)
+    × ((κs : Lfts 0) (a : _) → ours.Pre κs a)
+    × ((κs : Lfts 0) (a : _) → right.Pre κs a)
+    × ((κs : Lfts 0) (a : _) → within.Pre κs a)
+    × ((κs : Lfts 0) (a : _) → slot-of.Pre κs a)
+    × ((κs : Lfts 0) (a : _) → lowest.Pre κs a)
+    × ((κs : Lfts 0) (a : _) → state-at.Pre κs a)
+no-requires = ((λ κs a. tt), (λ κs a. tt), (λ κs a. tt), (λ κs a. tt), (λ κs a. tt), (λ κs a. tt), (λ κs a. tt), (λ κs a. tt), (λ κs a. tt))

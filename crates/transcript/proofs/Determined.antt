@@ -37,3 +37,11 @@ to-front-determined κs a r q e f p o = (determined (p .0) (o .0), determined (p
 pub last-line-determined : (κs : Lfts 1) (a : _) (r q : ℕ) (e f : _) → last-line.Post κs a r e → last-line.Post κs a q f
     → (r ≡ q) × (e .1 .0 .now ≡ f .1 .0 .now)
 last-line-determined κs a r q e f p o = (determined (p .0) (o .0), determined (p .1) (o .1))
+
+-- No call asks anything of its arguments first.
+pub no-requires : ((κs : Lfts 0) (a : _) → set-up.Pre κs a)
+    × ((κs : Lfts 3) (a : _) → frame-line.Pre κs a)
+    × ((κs : Lfts 3) (a : _) → chunk.Pre κs a)
+    × ((κs : Lfts 1) (a : _) → to-front.Pre κs a)
+    × ((κs : Lfts 1) (a : _) → last-line.Pre κs a)
+no-requires = ((λ κs a. tt), (λ κs a. tt), (λ κs a. tt), (λ κs a. tt), (λ κs a. tt))

@@ -38,3 +38,12 @@ pub store-pointer-determined : (κs : Lfts 1) (a : _) (r q : ℕ) (e f : _) → 
     → store-pointer.Post κs a q f
     → (r ≡ q) × (e .0 .now ≡ f .0 .now)
 store-pointer-determined κs a r q e f p o = (determined (p .0) (o .0), determined (p .1) (o .1))
+
+-- No call asks anything of its arguments first.
+pub no-requires : ((κs : Lfts 1) (a : _) → refusal.Pre κs a)
+    × ((κs : Lfts 1) (a : _) → place-of.Pre κs a)
+    × ((κs : Lfts 1) (a : _) → cut.Pre κs a)
+    × ((κs : Lfts 1) (a : _) → look.Pre κs a)
+    × ((κs : Lfts 1) (a : _) → store.Pre κs a)
+    × ((κs : Lfts 1) (a : _) → store-pointer.Pre κs a)
+no-requires = ((λ κs a. tt), (λ κs a. tt), (λ κs a. tt), (λ κs a. tt), (λ κs a. tt), (λ κs a. tt))

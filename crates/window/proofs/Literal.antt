@@ -11,12 +11,32 @@ use Rattle.mmbi.specs.declared.word.Word.{Word}
 use Rattle.mmbi.specs.Interface.{flagsOf}
 use Rattle.mmbi.specs.Words.{wordOf, numberOf}
 use Rattle.descriptor.specs.declared.configuration.Configuration.{Configuration}
+use Rattle.descriptor.specs.declared.configuration.Part.the-variants.{B2h, H2b, Ros, Rws}
 use Rattle.descriptor.specs.Configuration.{inside, clear, ringRight, allowed}
 use Rattle.descriptor.proofs.Literal.{descriptorImage, rosImage, windowImage, imageConfiguration}
 use Rattle.window.specs.declared.word.Pointer.{Pointer}
 use Rattle.window.specs.declared.word.Pointer.the-variants.{H2bWrite, B2hRead, B2hWrite, H2bRead}
 use Rattle.window.specs.declared.word.Interface.{Interface}
-use Rattle.window.specs.Window.{cleared, wordIn, interfaceIn, storeRefusal, stored, storedPointer}
+use Rattle.window.specs.Window.{placeIn, partOf, cleared, wordIn, interfaceIn, storeRefusal, stored, storedPointer}
+
+-- where the four parts lie, and what stands in the structures
+pub image-places : map (placeIn 340 imageConfiguration) (B2h ∷ H2b ∷ Ros ∷ Rws ∷ [])
+    ≡ record { offset = 80; length = 128 }
+    ∷ record { offset = 208; length = 132 }
+    ∷ record { offset = 64; length = 8 }
+    ∷ record { offset = 72; length = 8 }
+    ∷ []
+unfolding placeIn allowed inside clear ringRight
+image-places = refl
+
+pub image-parts : map (partOf windowImage imageConfiguration) (B2h ∷ H2b ∷ Ros ∷ Rws ∷ [])
+    ≡ replicate 128 0
+    ∷ replicate 132 0
+    ∷ (0 ∷ 0 ∷ 0 ∷ 18 ∷ 0 ∷ 0 ∷ 0 ∷ 9 ∷ [])
+    ∷ (0 ∷ 0 ∷ 0 ∷ 34 ∷ 0 ∷ 0 ∷ 0 ∷ 5 ∷ [])
+    ∷ []
+unfolding partOf placeIn allowed inside clear ringRight
+image-parts = refl
 
 -- both words of Host_RWS and of Host_ROS
 pub image-words :

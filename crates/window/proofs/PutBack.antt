@@ -1,19 +1,19 @@
 -- A ring lent out of a window comes back with other bytes, as many: descriptor, words and the other ring stay.
 -- Assumes nothing.
-use mathlib.Core.Path.{_≡_, refl, ap, _∙_}
+use mathlib.Core.Path.{_≡_, refl, ap, sym, _∙_}
 use mathlib.Core.Bool.{true, false≢true}
 use mathlib.Core.List.{List, _++_}
 use mathlib.Core.Logic.{_⊎_, inl, inr, ⊎-elim}
 use Prim.Native.Nat.{ℕ, _+_, _≤_}
 use native.Mathlib.Omega.{arith}
 use lib.ListN.{length, take, drop}
-use lib.Seq.{length-take-le, take-at, drop-at}
+use lib.Seq.{length-take-le, take-at, drop-at, drop-drop}
 use Rattle.octets.specs.Words.{highFirst}
 use Rattle.octets.proofs.Laid.{laid-fits, laid-length}
 use Rattle.descriptor.specs.declared.configuration.Configuration.{Configuration}
 use Rattle.descriptor.specs.declared.configuration.Part.{Part}
 use Rattle.descriptor.specs.declared.configuration.Part.the-variants.{B2h, H2b, Ros, Rws}
-use Rattle.descriptor.specs.Places.{Apart}
+use Rattle.descriptor.specs.Places.{endOf, Apart}
 use Rattle.descriptor.specs.Configuration.{partPlace, isRing, allowed, Allowed, RingRight}
 use Rattle.descriptor.proofs.Configurations.{allowed-facts}
 use Rattle.window.specs.declared.word.Pointer.{Pointer}
@@ -45,6 +45,29 @@ module _ (s : List ℕ) (c : Configuration) (ring : Part) (bytes : List ℕ) (is
   kept-length : length (putBack s c ring bytes) ≡ length s
   kept-length = laid-length s (partPlace c ring .offset) bytes
 
+  -- what lies before the ring, and behind it
+  abbrev place : ℕ
+  place = partPlace c ring .offset
+
+  laid-there : putBack s c ring bytes ≡ take place s ++ (bytes ++ drop (place + length bytes) s)
+  laid-there = laid-fits s place bytes (omega (arith, part-fits (length s) c ring facts, fits))
+
+  front : length (take place s) ≡ place
+  front = length-take-le place s (omega (arith, part-fits (length s) c ring facts))
+
+  before-stays : take place (putBack s c ring bytes) ≡ take place s
+  before-stays = ap (take place) laid-there ∙ take-at (take place s) _ place front
+
+  behind-stays : drop (endOf (partPlace c ring)) (putBack s c ring bytes) ≡ drop (endOf (partPlace c ring)) s
+  behind-stays =
+      let rest = drop (place + length bytes) s in
+      let n = partPlace c ring .length in
+      ap (drop (place + n)) laid-there
+      ∙ sym (drop-drop n place (take place s ++ (bytes ++ rest)))
+      ∙ ap (drop n) (drop-at (take place s) (bytes ++ rest) place front)
+      ∙ drop-at bytes rest n fits
+      ∙ ap (λ (k : ℕ). drop (place + k) s) fits
+
   -- the descriptor
   descriptor-stays : take 64 (putBack s c ring bytes) ≡ take 64 s
   descriptor-stays =
@@ -56,7 +79,6 @@ module _ (s : List ℕ) (c : Configuration) (ring : Part) (bytes : List ℕ) (is
   word-stays : (p : Pointer) → wordIn (putBack s c ring bytes) c p ≡ wordIn s c p
   unfolding wordIn
   word-stays p =
-      let place = partPlace c ring .offset in
       let apart : (place + length bytes ≤ wordPlace c p) ⊎ (wordPlace c p + 4 ≤ place) =
       ⊎-elim (λ (h : _). inr h) (λ (h : _). inl (omega (arith, fits)))
       (beside c p ring (ring-clear (length s) c ring is facts)) in
@@ -81,14 +103,20 @@ module _ (s : List ℕ) (c : Configuration) (ring : Part) (bytes : List ℕ) (is
   ring-is-back : partOf (putBack s c ring bytes) c ring ≡ bytes
   unfolding partOf placeIn
   ring-is-back =
-      let at = partPlace c ring .offset in
       let n = partPlace c ring .length in
-      let all = part-fits (length s) c ring facts in
-      let rest = drop (at + length bytes) s in
+      let rest = drop (place + length bytes) s in
       rw (kept-length, ok)
-      (ap (λ (l : List ℕ). take n (drop at l)) (laid-fits s at bytes (omega (arith, all, fits)))
-      ∙ ap (take n) (drop-at (take at s) (bytes ++ rest) at (length-take-le at s (omega (arith, all))))
+      (ap (λ (l : List ℕ). take n (drop place l)) laid-there
+      ∙ ap (take n) (drop-at (take place s) (bytes ++ rest) place front)
       ∙ take-at bytes rest n fits)
 
   pub put-back : RingChanged s c ring bytes
-  put-back = record { descriptor = descriptor-stays; others = others-stay; words = words-stay; itself = ring-is-back }
+  put-back =
+      record {
+        before = before-stays;
+        behind = behind-stays;
+        descriptor = descriptor-stays;
+        others = others-stay;
+        words = words-stay;
+        itself = ring-is-back;
+      }

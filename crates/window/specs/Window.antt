@@ -14,6 +14,7 @@ use Rattle.mmbi.specs.Interface.{flagsOf}
 use Rattle.mmbi.specs.Pointers.{pointerRight}
 use Rattle.mmbi.specs.Words.{wordOf, numberOf}
 use Rattle.descriptor.specs.Configuration.{partPlace, allowed}
+use Rattle.descriptor.specs.Places.{endOf}
 use Rattle.descriptor.specs.declared.place.Place.{Place}
 use Rattle.descriptor.specs.declared.configuration.Configuration.{Configuration}
 use Rattle.descriptor.specs.declared.configuration.Part.{Part}
@@ -98,8 +99,11 @@ stored s c p w =
 unfoldable pub storedPointer : List ℕ → Configuration → Pointer → ℕ → List ℕ
 storedPointer s c p at = stored s c p (record { pointer = at; high = wordIn s c p .high; low = wordIn s c p .low })
 
--- a ring with other bytes, and the window else as it was: the descriptor, both structures and the other ring
+-- a ring with other bytes, and the window else as it was: all before and behind it, so the descriptor, both structures
+-- and the other ring
 pub record RingChanged (s : List ℕ) (c : Configuration) (ring : Part) (bytes : List ℕ) : Type 0 where
+  pub before : take (partPlace c ring .offset) (putBack s c ring bytes) ≡ take (partPlace c ring .offset) s
+  pub behind : drop (endOf (partPlace c ring)) (putBack s c ring bytes) ≡ drop (endOf (partPlace c ring)) s
   pub descriptor : take 64 (putBack s c ring bytes) ≡ take 64 s
   pub others : (other : Part) → (other ≡ ring → ⊥) → partOf (putBack s c ring bytes) c other ≡ partOf s c other
   pub words : interfaceIn (putBack s c ring bytes) c ≡ interfaceIn s c
