@@ -5,7 +5,7 @@ use mathlib.Core.Bool.{true, false}
 use mathlib.Core.List.{List, [], _∷_, map}
 use Prim.Native.Nat.{ℕ}
 use Rattle.mctp.specs.Eid.{nullEid, broadcastEid, reservedEid, endpointEid}
-use Rattle.mctp.specs.Packet.{packetSize, mostRight}
+use Rattle.mctp.specs.Packet.{versionOf, packetSize, mostRight}
 use Rattle.mctp.specs.Key.{keyOf, headerOf}
 
 -- `F1 09 0A BD`: BD is 1011 1101, so start and not end, sequence 11, tag owner, tag 101; F is reserved
@@ -31,6 +31,10 @@ pub header-too : headerOf (2 ∷ 0xFF ∷ 8 ∷ 0x56 ∷ [])
     }
 unfolding headerOf keyOf
 header-too = refl
+
+-- "low four bits version, 1": 0, 1, 2, 9 and 15, the last two of them with reserved bits
+pub versions : map (λ (b : ℕ). versionOf (b ∷ [])) (0 ∷ 1 ∷ 2 ∷ 0x39 ∷ 0xFF ∷ []) ≡ 0 ∷ 1 ∷ 2 ∷ 9 ∷ 15 ∷ []
+versions = refl
 
 -- "EID 0 is null, 255 is broadcast, 1 to 7 are reserved", on both sides of each border
 abbrev borders : List ℕ

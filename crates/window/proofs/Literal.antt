@@ -17,7 +17,16 @@ use Rattle.descriptor.proofs.Literal.{descriptorImage, rosImage, windowImage, i
 use Rattle.window.specs.declared.word.Pointer.{Pointer}
 use Rattle.window.specs.declared.word.Pointer.the-variants.{H2bWrite, B2hRead, B2hWrite, H2bRead}
 use Rattle.window.specs.declared.word.Interface.{Interface}
-use Rattle.window.specs.Window.{placeIn, partOf, cleared, wordIn, interfaceIn, storeRefusal, stored, storedPointer}
+use Rattle.window.specs.Window.{setupOf, placeIn, partOf, cleared, wordIn, interfaceIn, storeRefusal, stored, storedPointer}
+
+-- 1 in a window one byte too short; nothing lies there then
+pub image-setup : map (λ (n : ℕ). setupOf n imageConfiguration) (339 ∷ 340 ∷ []) ≡ 1 ∷ 0 ∷ []
+unfolding setupOf allowed inside clear ringRight
+image-setup = refl
+
+pub image-nowhere : placeIn 339 imageConfiguration H2b ≡ record { offset = 0; length = 0 }
+unfolding placeIn allowed inside clear ringRight
+image-nowhere = refl
 
 -- where the four parts lie, and what stands in the structures
 pub image-places : map (placeIn 340 imageConfiguration) (B2h ∷ H2b ∷ Ros ∷ Rws ∷ [])
