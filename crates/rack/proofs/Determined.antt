@@ -7,6 +7,8 @@ use contract.Lifetimes.{Lfts}
 use Rattle.octets.proofs.Choice.{determined}
 use Rattle.mctp.proofs.Refusals.{number-injective}
 use Rattle.receiver.proofs.Determined.{says-injective}
+use Rattle.mmbi.specs.Interface.{stateOf, mayRead}
+use Rattle.ring.specs.Reading.{readOf}
 use Rattle.rack.specs.declared.answer.NoPacket.{NoPacket}
 use Rattle.rack.specs.declared.answer.NoPacket.the-variants.{Empty, Skipped, Refused}
 use Rattle.rack.specs.declared.answer.Arrived.{Arrived}
@@ -54,11 +56,14 @@ pub from-pcc-arrives : (κs : Lfts 2) (a r e : _) → pcc.Post κs a r e
 from-pcc-arrives κs a r e p = p
 
 pub from-ring-arrives : (κs : Lfts 3) (a r e : _) → ring.Post κs a r e
-    → left r (e .1 .1 .1 .1 .1 .1 .1 .0 .now)
+    → (left r (e .1 .1 .1 .1 .1 .1 .1 .0 .now)
     ≡ arrivedOf 64 (a .1 .1 .1 .1 .1 .1 .0) (a .1 .1 .1 .1 .1 .1 .1 .0 .now)
-    (carries 64 (byRing (a .0 .now) (a .1 .0) (a .1 .1 .0) (a .1 .1 .1 .0) (a .1 .1 .1 .1 .0)
-    (a .1 .1 .1 .1 .1 .0 .now)))
-from-ring-arrives κs a r e p = p .0
+    (carries 64
+    (byRing (a .0 .now) (a .1 .0) (a .1 .1 .0) (a .1 .1 .1 .0) (a .1 .1 .1 .1 .0) (a .1 .1 .1 .1 .1 .0 .now))))
+    × (e .1 .1 .1 .1 .1 .0 .now
+    ≡ readOf 64 (a .0 .now) (a .1 .0) (mayRead (stateOf (a .1 .1 .0))) (a .1 .1 .1 .0) (a .1 .1 .1 .1 .0)
+    (a .1 .1 .1 .1 .1 .0 .now) .output)
+from-ring-arrives κs a r e p = p
 
 -- .. and leaves no choice.
 pub from-smbus-determined : (κs : Lfts 2) (a r q e f : _) → smbus.Post κs a r e → smbus.Post κs a q f

@@ -58,6 +58,10 @@ pub record Literals : Type 0 where
   -- "The receiver has an own EID (0 or 8 to 254)"
   pub own-eids : map (λ (e : ℕ). setUpOf (record { own = record { 0 = e } }) .number) (0 ∷ 8 ∷ 254 ∷ 1 ∷ 7 ∷ 255 ∷ [])
       ≡ 0 ∷ 0 ∷ 0 ∷ 1 ∷ 1 ∷ 1 ∷ []
+  -- and the receiver is set up with it; refused, with the null EID
+  pub own-kept : map (λ (e : ℕ). setUpOf (record { own = record { 0 = e } }) .receiver .setup .own .0)
+      (0 ∷ 8 ∷ 254 ∷ 7 ∷ [])
+      ≡ 0 ∷ 8 ∷ 254 ∷ 0 ∷ []
   -- "unit is 1 to 64"
   pub units : map (λ (u : ℕ). may-hold (slot (key 9 10 true 0) 0 u u)) (1 ∷ 64 ∷ 0 ∷ 65 ∷ [])
       ≡ true ∷ true ∷ false ∷ false ∷ []
@@ -93,6 +97,7 @@ unfolding setUpOf freedOf slotOf lowestFree firstOf sameKey rightState rightSlot
 literals =
     record {
       own-eids = refl;
+      own-kept = refl;
       units = refl;
       helds = refl;
       sequences = refl;
