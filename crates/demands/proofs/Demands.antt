@@ -4,11 +4,10 @@ use mathlib.Core.Path.{_≡_, ap}
 use mathlib.Core.Bool.{Bool, true, false}
 use mathlib.Core.List.{List, [], _∷_, _++_}
 use Prim.Native.Nat.{ℕ, _+_, _≤_, _<_}
-use lib.Dec.{ltb}
 use lib.ListN.{length, take, replicate}
 use Rattle.octets.specs.Bytes.{Below, fronted}
 use Rattle.octets.specs.Words.{lowFirst, wordAt}
-use Rattle.mctp.specs.Packet.{packetSize, bodyOf, endOf}
+use Rattle.mctp.specs.Packet.{packetSize, endOf}
 use Rattle.mctp.specs.Key.{keyOf}
 use Rattle.pec.specs.Wire.{WindowChange}
 use Rattle.smbus.specs.Frame.{frameOf}
@@ -31,7 +30,7 @@ use Rattle.window.proofs.Stores.{stored-refused, pointer-refused}
 use Rattle.mmbi.specs.declared.word.Word.{Word}
 use Rattle.mmbi.specs.Interface.{flagsOf, stateOf, mayRead}
 use Rattle.mmbi.specs.declared.interface.Flags.{Flags}
-use Rattle.ring.specs.Numbers.{lengthRight}
+use Rattle.ring.specs.Numbers.{lengthRight, nextOf}
 use Rattle.ring.specs.Packet.{packetOf, wholeFor, ringBytes, RingLayout}
 use Rattle.ring.specs.Turn as turning
 use Rattle.ring.specs.Turn.{turn}
@@ -43,15 +42,14 @@ use Rattle.ring.proofs.Readings.{taken-not-1}
 use Rattle.ring.proofs.Writings.{put-not-1}
 use Rattle.slots.specs.declared.state.Receiver.{Receiver}
 use Rattle.slots.specs.declared.state.Setup.{Setup}
-use Rattle.slots.specs.Slots.{slotOf}
 use Rattle.slots.specs.State.{rightState}
 use Rattle.slots.specs.Changes.{fresh, freedOf}
 use Rattle.slots.proofs.Kept.{freed-refused}
 use Rattle.receiver.specs.Effects.{Unchanged, SlotFreed}
-use Rattle.receiver.specs.Step.{refused, done, stepOf}
+use Rattle.receiver.specs.Step.{refused, stepOf}
 use Rattle.receiver.proofs.Laws.{refused-unchanged, refused-freed}
-use Rattle.messages.specs.Run.{give, rules, run, runPackets}
-use Rattle.messages.specs.Message.{Item, callsOf, Starts, Train, Accepted, slotFor}
+use Rattle.messages.specs.Run.{give, run, runPackets}
+use Rattle.messages.specs.Message.{Item, callsOf, Starts, Train, Accepted, AcceptedAlone, slotFor}
 use Rattle.messages.proofs.Acceptance.{acceptance, single-accepted}
 use Rattle.rack.specs.declared.answer.Known.{Known}
 use Rattle.rack.specs.declared.answer.Known.the-variants.{Source, Notify, Next}
@@ -169,12 +167,13 @@ pub written-region-is-the-layout : (region : List ℕ) (id : ℕ) (notify : Bool
     → regions.writtenOf 64 region id notify p ≡ fronted region (regionOf id notify p)
 written-region-is-the-layout region id notify p = written-whole region p id notify 64
 
--- a packet taken out of a ring stands there from the read pointer on as Table 6 has it, with some reserved bits and some padding of the right length, and a
+-- a packet taken out of a ring stands there from the read pointer on as Table 6 has it, with some reserved bits and some padding of the right length; size and pointer are its own; and a
 -- written one with zeros
 pub good-ring-packet-is-the-layout : (ring : List ℕ) (configured : ℕ) (running : Bool)
     (read write output size next : ℕ) → Below 256 ring
     → taking.takenOf 64 ring configured running read write output ≡ taking.packet size next
-    → RingLayout (turn read ring) (packetOf (turn read ring))
+    → RingLayout (turn read ring) (packetOf (turn read ring)) × (length (packetOf (turn read ring)) ≡ size)
+    × (next ≡ nextOf configured read (wholeFor size))
 good-ring-packet-is-the-layout = ring-layout 64
 
 pub written-ring-packet-is-the-layout : (ring : List ℕ) (configured : ℕ) (running : Bool) (read write : ℕ)
@@ -193,11 +192,8 @@ messages-are-put-together r m first items final t = acceptance 64 r m first item
 
 -- a message of one packet, with start and end, is done at once
 pub a-message-of-one-packet : (r : Receiver) (m p : List ℕ) → rightState 64 r ≡ true → length m ≡ 4096
-    → slotFor (r .slots) (keyOf p) < 4
-    → Starts 64 (r .setup) p → endOf p ≡ true
-    → (run 64 r m (give p ∷ []) .answers
-    ≡ rules (done (slotFor (r .slots) (keyOf p)) (length (bodyOf p)) (ltb (slotOf (r .slots) (keyOf p)) 4)) ∷ [])
-    × (run 64 r m (give p ∷ []) .messages ≡ bodyOf p ∷ [])
+    → slotFor (r .slots) (keyOf p) < 4 → Starts 64 (r .setup) p → endOf p ≡ true
+    → AcceptedAlone r p (run 64 r m (give p ∷ [])) (slotFor (r .slots) (keyOf p))
 a-message-of-one-packet = single-accepted 64
 
 -- "What is written reads back the same": "a frame at its destination address,"

@@ -5,11 +5,10 @@ use mathlib.Core.Bool.{Bool, true, false}
 use mathlib.Core.List.{List, [], _∷_, _++_}
 use Prim.Native.Nat.{ℕ, _+_}
 use native.Mathlib.Omega.{arith}
-use lib.Dec.{ltb, lit≤}
+use lib.Dec.{lit≤}
 use lib.ListN.{length, take, replicate}
 use Rattle.octets.specs.Bytes.{Below, fronted}
 use Rattle.octets.specs.Words.{lowFirst, wordAt}
-use Rattle.mctp.specs.Packet.{bodyOf}
 use Rattle.mctp.specs.Key.{keyOf}
 use Rattle.pec.proofs.Tests.{all-bytes}
 use Rattle.smbus.specs.Frame.{frameOf}
@@ -27,18 +26,18 @@ use Rattle.descriptor.specs.Configuration.{partPlace, inside, clear, ringRight,
 use Rattle.descriptor.proofs.Literal.{windowImage, imageConfiguration, image-found}
 use Rattle.window.specs.declared.word.Pointer.the-variants.{H2bWrite}
 use Rattle.window.specs.Window as window
+use Rattle.ring.specs.Numbers.{nextOf}
 use Rattle.ring.specs.Packet.{packetOf, wholeFor, ringBytes, RingLayout}
 use Rattle.ring.specs.Runs.{arrivalRing}
 use Rattle.ring.specs.Turn.{turn, stored}
 use Rattle.ring.specs.Reading as taking
 use Rattle.ring.specs.Writing as putting
 use Rattle.ring.proofs.Literal as image
-use Rattle.slots.specs.Slots.{slotOf}
 use Rattle.slots.specs.Changes.{freedOf}
 use Rattle.receiver.specs.Effects.{Unchanged, SlotFreed}
-use Rattle.receiver.specs.Step.{done, stepOf}
-use Rattle.messages.specs.Run.{give, rules, run}
-use Rattle.messages.specs.Message.{callsOf, slotFor, Accepted}
+use Rattle.receiver.specs.Step.{stepOf}
+use Rattle.messages.specs.Run.{give, run}
+use Rattle.messages.specs.Message.{callsOf, slotFor, Accepted, AcceptedAlone}
 use Rattle.rack.specs.declared.answer.Known.the-variants.{Source, Notify, Next}
 use Rattle.rack.specs.Arrivals as carrier
 use Rattle.rack.specs.Arrivals.{Carried, bySmbus, byPcc, byRing, carries}
@@ -218,7 +217,9 @@ ring-reads-back =
     (replicate 68 0) written running (lit≤ tt)
 
 -- the ring so written
-pub good-ring-packet-is-the-layout : RingLayout (turn 120 image.written) (packetOf (turn 120 image.written))
+pub good-ring-packet-is-the-layout :
+    RingLayout (turn 120 image.written) (packetOf (turn 120 image.written))
+    × (length (packetOf (turn 120 image.written)) ≡ 5) × (4 ≡ nextOf 128 120 (wholeFor 5))
 good-ring-packet-is-the-layout =
     demands.good-ring-packet-is-the-layout image.written 128 true 120 4 68 5 4 (all-bytes image.written tt)
     (ap (λ (l : taking.Left). l .says) image.image-read)
@@ -233,13 +234,10 @@ messages-are-put-together =
     demands.messages-are-put-together card empty (packetWith 0xBD 64 1) middles (packetWith 0x5D 2 3) (steps .train)
 
 pub a-message-of-one-packet :
-    (run 64 card empty (give literalPacket ∷ []) .answers
-    ≡ rules (done (slotFor (card .slots) (keyOf literalPacket)) 1
-    (ltb (slotOf (card .slots) (keyOf literalPacket)) 4)) ∷ [])
-    × (run 64 card empty (give literalPacket ∷ []) .messages ≡ bodyOf literalPacket ∷ [])
+    AcceptedAlone card literalPacket (run 64 card empty (give literalPacket ∷ [])) (slotFor (card .slots) (keyOf literalPacket))
 a-message-of-one-packet =
-    demands.a-message-of-one-packet card empty literalPacket (steps .right) refl (omega (arith, steps .room))
-    (steps .one-packet) refl
+    demands.a-message-of-one-packet card empty literalPacket (steps .right) refl (omega (arith, steps .room)) (steps .one-packet)
+    refl
 
 -- DEMAND 3
 

@@ -25,7 +25,7 @@ use Rattle.decision.proofs.Picked.{pick-elim}
 use Rattle.receiver.specs.Step.{Said, done, Left, stepOf}
 use Rattle.receiver.proofs.Laws.{one-slot}
 use Rattle.messages.specs.Run.{Call, give, free, rules, message, messagesOf, Ran, called, joined, run}
-use Rattle.messages.specs.Message.{Item, part, between, callsOf, bodiesOf, lastOf, partReplies, heldReplies, slotFor, Starts, Follows, Middles, Train, Accepted}
+use Rattle.messages.specs.Message.{Item, part, between, callsOf, bodiesOf, lastOf, partReplies, heldReplies, slotFor, Starts, Follows, Middles, Train, Accepted, AcceptedAlone}
 use Rattle.messages.proofs.Runs.{run-append, called-one-slot}
 use Rattle.messages.proofs.Gathering.{Gathers, middle-step, middle-gathers, end-step, end-message, between-gathers, start-held, start-done, start-message, start-gathers}
 
@@ -126,18 +126,24 @@ module _ (most : ℕ) (r : Receiver) (m first : List ℕ) (items : List Item) (f
             ∙ slot-same (middle .receiver .slots) i Free (omega (arith, gathered .slot, right-of most (middle .receiver) (gathered .right) .four));
       }
 
--- a message of one packet: done at once, with its body
-pub single-accepted : (most : ℕ) (r : Receiver) (m p : List ℕ) → rightState most r ≡ true → length m ≡ 4096 → slotFor (r .slots) (keyOf p) < 4
-    → Starts most (r .setup) p → endOf p ≡ true
-    → (run most r m (give p ∷ []) .answers ≡ rules (done (slotFor (r .slots) (keyOf p)) (length (bodyOf p)) (ltb (slotOf (r .slots) (keyOf p)) 4)) ∷ [])
-    × (run most r m (give p ∷ []) .messages ≡ bodyOf p ∷ [])
+-- a message of one packet: done at once, with its body, and the slot is free
+pub single-accepted : (most : ℕ) (r : Receiver) (m p : List ℕ) → rightState most r ≡ true → length m ≡ 4096
+    → slotFor (r .slots) (keyOf p) < 4 → Starts most (r .setup) p → endOf p ≡ true
+    → AcceptedAlone r p (run most r m (give p ∷ [])) (slotFor (r .slots) (keyOf p))
 unfolding run
 single-accepted most r m p e n room s last =
+    let i = slotFor (r .slots) (keyOf p) in
     let step = start-done most r m p e n s room last in
-    let bytes = start-message most r m p e n s room last in (
-      ap (λ (l : Left). rules (l .said) ∷ []) step,
-      ap (λ (x : Said). messagesOf x (stepOf most r m p .memory) ++ []) (ap (λ (l : Left). l .said) step) ∙ ap (λ (b : List ℕ). b ∷ []) bytes,
-    )
+    let bytes = start-message most r m p e n s room last in
+    record {
+      answers = ap (λ (l : Left). rules (l .said) ∷ []) step;
+      messages =
+          ap (λ (x : Said). messagesOf x (stepOf most r m p .memory) ++ []) (ap (λ (l : Left). l .said) step)
+          ∙ ap (λ (b : List ℕ). b ∷ []) bytes;
+      slot-free =
+          ap (λ (l : Left). slotAt (l .receiver .slots) i) step
+          ∙ slot-same (r .slots) i Free (omega (arith, room, right-of most r e .four));
+    }
 
 -- there is room for a key that has a slot, and where a slot is free
 pub room-of-key : (most : ℕ) (r : Receiver) (k : Key) (i : ℕ) → rightState most r ≡ true → i < 4 → hasKey k (slotAt (r .slots) i) ≡ true → slotFor (r .slots) k ≡ i

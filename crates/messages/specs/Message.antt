@@ -118,3 +118,9 @@ pub record Accepted (r : Receiver) (first : List ℕ) (items : List Item) (final
   pub held-so-far : partReplies items (middle .answers) ≡ heldReplies i (length (bodyOf first)) items
   pub messages : whole .messages ≡ middle .messages ++ (((bodyOf first ++ bodiesOf items) ++ bodyOf final) ∷ [])
   pub slot-free : slotAt (whole .receiver .slots) i ≡ Free
+
+-- what a message of one packet leaves
+pub record AcceptedAlone (r : Receiver) (p : List ℕ) (whole : Ran) (i : ℕ) : Type 0 where
+  pub answers : whole .answers ≡ rules (done i (length (bodyOf p)) (ltb (slotOf (r .slots) (keyOf p)) 4)) ∷ []
+  pub messages : whole .messages ≡ bodyOf p ∷ []
+  pub slot-free : slotAt (whole .receiver .slots) i ≡ Free

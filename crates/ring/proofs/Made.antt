@@ -108,12 +108,18 @@ module _ (most : ℕ) (ring : List ℕ) (configured : ℕ) (running : Bool) (rea
       ap wholeFor taken-length ∙ sym (whole-is (headerAt s) (header .ours) (header .counted)) in
       held s n (paddingFor n) (subst (λ (k : ℕ). k < length s) (sym whole) lies)
 
-  pub ring-layout : RingLayout s (packetOf s)
-  ring-layout =
-      record {
-        reserved = headerAt s / 16 % 16;
-        padding = take (paddingFor (length (packetOf s))) (drop (4 + length (packetOf s)) s);
-        four-bits = omega arith;
-        padded = taken-padding;
-        laid-out = taken-whole;
-      }
+  whole : wholeOf (headerAt s) ≡ wholeFor size
+  whole = whole-is (headerAt s) (header .ours) (header .counted) ∙ ap wholeFor (sym (header .sized))
+
+  pub ring-layout : RingLayout s (packetOf s) × (length (packetOf s) ≡ size) × (next ≡ nextOf configured read (wholeFor size))
+  ring-layout = (
+    record {
+      reserved = headerAt s / 16 % 16;
+      padding = take (paddingFor (length (packetOf s))) (drop (4 + length (packetOf s)) s);
+      four-bits = omega arith;
+      padded = taken-padding;
+      laid-out = taken-whole;
+    },
+    taken-length ∙ sym (header .sized),
+    header .on ∙ ap (nextOf configured read) whole,
+  )
