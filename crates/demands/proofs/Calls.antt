@@ -1,6 +1,6 @@
--- What the demands speak of is what the calls promise: the contract of each call that no other crate's proof needs, said over its
--- own arguments. (rack's `from-..-arrives` and messages' `Said` do the same for arrivals, `give`, `free` and `message`.) A contract
--- that is wrong with its code alone would still leave no choice; here it meets the demands' definition.
+-- What the demands speak of is what the calls promise: the contract of each call that no other call's proof needs, said
+-- over its own arguments. (rack's `from-..-arrives` and messages' `Said` do the same for arrivals, `give`, `free` and
+-- `message`.) A contract that is wrong with its code alone would still leave no choice; here it meets the definition.
 -- Assumes nothing.
 use mathlib.Core.Path.{_≡_}
 use contract.Lifetimes.{Lfts}

@@ -1,5 +1,5 @@
--- A ring cut out of a window by a configuration that was read from it: its length is one that the ring calls take, and what
--- they write there leaves the rest of the window.
+-- A ring cut out of a window by a configuration that was read from it: its length is one that the ring calls take, and
+-- what they write there leaves the rest of the window.
 -- Assumes nothing.
 use mathlib.Core.Path.{_≡_, sym, _∙_}
 use mathlib.Core.Bool.{Bool, true}

@@ -156,7 +156,8 @@ pub written-frame-is-the-layout : (out p : List ℕ) (destination source : ℕ)
     → frames.outputOf 64 out p destination source ≡ fronted out (frameOf destination source p)
 written-frame-is-the-layout = output-written 64
 
--- a good region is the layout of its packet with its own flags, of which bit 0 is notify, and a written one has no other flag
+-- a good region is the layout of its packet with its own flags, of which bit 0 is notify, and a written one has no
+-- other flag
 pub good-region-is-the-layout : (region : List ℕ) (id : ℕ) → Below 256 region → pcc.refusalOf 64 region id ≡ 0
     → take (16 + length (pcc.packetOf 64 region id)) region
     ≡ regionWith id (wordAt lowFirst region 4) (pcc.packetOf 64 region id)
@@ -167,8 +168,8 @@ pub written-region-is-the-layout : (region : List ℕ) (id : ℕ) (notify : Bool
     → regions.writtenOf 64 region id notify p ≡ fronted region (regionOf id notify p)
 written-region-is-the-layout region id notify p = written-whole region p id notify 64
 
--- a packet taken out of a ring stands there from the read pointer on as Table 6 has it, with some reserved bits and some padding of the right length; size and pointer are its own; and a
--- written one with zeros
+-- a packet taken out of a ring stands there from the read pointer on as Table 6 has it, with some reserved bits and some
+-- padding of the right length; size and pointer are its own; and a written one has zeros there
 pub good-ring-packet-is-the-layout : (ring : List ℕ) (configured : ℕ) (running : Bool)
     (read write output size next : ℕ) → Below 256 ring
     → taking.takenOf 64 ring configured running read write output ≡ taking.packet size next

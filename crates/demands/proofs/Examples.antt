@@ -234,10 +234,11 @@ messages-are-put-together =
     demands.messages-are-put-together card empty (packetWith 0xBD 64 1) middles (packetWith 0x5D 2 3) (steps .train)
 
 pub a-message-of-one-packet :
-    AcceptedAlone card literalPacket (run 64 card empty (give literalPacket ∷ [])) (slotFor (card .slots) (keyOf literalPacket))
+    AcceptedAlone card literalPacket (run 64 card empty (give literalPacket ∷ []))
+    (slotFor (card .slots) (keyOf literalPacket))
 a-message-of-one-packet =
-    demands.a-message-of-one-packet card empty literalPacket (steps .right) refl (omega (arith, steps .room)) (steps .one-packet)
-    refl
+    demands.a-message-of-one-packet card empty literalPacket (steps .right) refl (omega (arith, steps .room))
+    (steps .one-packet) refl
 
 -- DEMAND 3
 

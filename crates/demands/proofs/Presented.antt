@@ -5,10 +5,10 @@ use mathlib.Core.List.{List, [], _∷_, _++_}
 use Prim.Native.Nat.{ℕ}
 use Rattle.slots.specs.declared.state.Receiver.{Receiver}
 use Rattle.receiver.specs.Step.{stepOf}
-use Rattle.messages.specs.Run.{give, Ran, joined, called, run, runPackets}
+use Rattle.messages.specs.Run.{give, joined, called, run, runPackets}
 use Rattle.rack.specs.Arrivals.{Arrival, Carried, packet, none, carries}
 use Rattle.rack.specs.Answers.{arrivedOf}
-use Rattle.demands.specs.Presenting.{arrival, ofArrival, present, packetIn, packetsOf}
+use Rattle.demands.specs.Presenting.{ofArrival, present, packetIn, packetsOf}
 
 module _ (most : ℕ) where
   -- the rest leaves what a run of its packets leaves, from any state and memory

@@ -68,7 +68,9 @@ pub record Steps : Type 0 where
   pub train : Train 64 card empty (packetWith 0xBD 64 1) middles (packetWith 0x5D 2 3)
 
 pub steps : Steps
-unfolding stepOf decided fromPacket fromSource setupRefusal packetRefusal sourceRefusal ruled onStart onFollow gathered after slotOf lowestFree firstOf headerOf keyOf sameKey rightState rightSlot rightNumbers multiple clash laid freedOf slotFor Middles
+unfolding stepOf decided fromPacket fromSource setupRefusal packetRefusal sourceRefusal ruled onStart onFollow gathered
+    after slotOf lowestFree firstOf headerOf keyOf sameKey rightState rightSlot rightNumbers multiple clash laid freedOf
+    slotFor Middles
 steps =
     record {
       first-taken = refl;
@@ -92,13 +94,29 @@ steps =
             middles = (
               inl refl,
               (
-                record { checked = refl; source = refl; not-start = refl; key = refl; sequence = refl; size = refl; room = lit≤ tt },
+                record {
+                  checked = refl;
+                  source = refl;
+                  not-start = refl;
+                  key = refl;
+                  sequence = refl;
+                  size = refl;
+                  room = lit≤ tt;
+                },
                 refl,
                 (inr (3, lit≤ tt, refl), ((λ (e : _≡_ {A = ℕ} 3 0). omega arith), tt)),
               ),
             );
             follows =
-                record { checked = refl; source = refl; not-start = refl; key = refl; sequence = refl; size = refl; room = lit≤ tt };
+                record {
+                  checked = refl;
+                  source = refl;
+                  not-start = refl;
+                  key = refl;
+                  sequence = refl;
+                  size = refl;
+                  room = lit≤ tt;
+                };
             ends = refl;
           };
     }

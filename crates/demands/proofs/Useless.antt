@@ -131,7 +131,8 @@ module _ (build : Receiver → List ℕ → List ℕ → rules.Left) (meets : (r
       (said card empty (packetWith 0x80 2 7) (rules.held 0 2 false) (steps .held-two)) in
       omega arith
 
--- ".. or packet count fails since .. packets is counted by 2's layouts.": a build is the state that the transcript's calls leave after some frames
+-- ".. or packet count fails since .. packets is counted by 2's layouts.": a build is the state that the transcript's
+-- calls leave after some frames
 pub one-packet-count : (build : List (List ℕ) → State)
     → ((frames : List (List ℕ)) → build frames ≡ transcript.run start empty frames .state)
     → (n : ℕ) → ((frames : List (List ℕ)) → build frames .packets ≡ n) → ⊥

@@ -135,8 +135,8 @@ pub fields :
 unfolding configurationIn wordAt
 fields = refl
 
--- "9 for the signature or a window too short to hold the descriptor": each letter wrong, then 63 bytes, then a window of
--- zeros, whose version and type are wrong too
+-- "9 for the signature or a window too short to hold the descriptor": each letter wrong, then 63 bytes, then a window
+-- of zeros, whose version and type are wrong too
 pub nine : map outcomeOf
     (map (λ (i : ℕ). set windowImage i 0) (0 ∷ 1 ∷ 2 ∷ 3 ∷ 4 ∷ 5 ∷ []) ++ (take 63 windowImage ∷ replicate 340 0 ∷ []))
     ≡ replicate 8 (refused 9)
@@ -144,7 +144,9 @@ unfolding outcomeOf refusalOf signatureRight configurationIn allowed inside clea
 nine = refl
 
 -- 10: versions 0, 2 and 9, and so the types; the high four bits of each are reserved
-pub ten : map outcomeOf (map (set windowImage 6) (0 ∷ 2 ∷ 9 ∷ 0x10 ∷ []) ++ map (set windowImage 24) (0 ∷ 2 ∷ 9 ∷ 0x10 ∷ []))
+pub ten :
+    map outcomeOf
+    (map (set windowImage 6) (0 ∷ 2 ∷ 9 ∷ 0x10 ∷ []) ++ map (set windowImage 24) (0 ∷ 2 ∷ 9 ∷ 0x10 ∷ []))
     ≡ replicate 8 (refused 10)
 unfolding outcomeOf refusalOf signatureRight configurationIn allowed inside clear ringRight wordAt
 ten = refl

@@ -111,7 +111,8 @@ module _ (most : ℕ) (ring : List ℕ) (configured : ℕ) (running : Bool) (rea
   whole : wholeOf (headerAt s) ≡ wholeFor size
   whole = whole-is (headerAt s) (header .ours) (header .counted) ∙ ap wholeFor (sym (header .sized))
 
-  pub ring-layout : RingLayout s (packetOf s) × (length (packetOf s) ≡ size) × (next ≡ nextOf configured read (wholeFor size))
+  pub ring-layout : RingLayout s (packetOf s) × (length (packetOf s) ≡ size)
+      × (next ≡ nextOf configured read (wholeFor size))
   ring-layout = (
     record {
       reserved = headerAt s / 16 % 16;

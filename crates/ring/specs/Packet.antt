@@ -56,7 +56,8 @@ ringBytes packet = wordBytes highFirst (headerFor (length packet)) ++ (packet ++
 
 -- as any maker may write it: "[7:4] – Reserved" of byte 3, and padding of any bytes
 abbrev pub ringWith : ℕ → List ℕ → List ℕ → List ℕ
-ringWith reserved packet padding = wordBytes highFirst (headerFor (length packet) + 16 * reserved) ++ (packet ++ padding)
+ringWith reserved packet padding =
+    wordBytes highFirst (headerFor (length packet) + 16 * reserved) ++ (packet ++ padding)
 
 -- a list that starts with this packet, laid out so
 pub record RingLayout (s packet : List ℕ) : Type 0 where

@@ -124,7 +124,12 @@ four-pointers = refl
 -- a window of bytes EE with room for larger pointers: Host_ROS at 64, Host_RWS at 72, B2H of 1,024 bytes, H2B of 2,048
 abbrev wide : Configuration
 wide =
-    record { b2h = record { offset = 80; length = 1024 }; h2b = record { offset = 1104; length = 2048 }; ros = 64; rws = 72 }
+    record {
+      b2h = record { offset = 80; length = 1024 };
+      h2b = record { offset = 1104; length = 2048 };
+      ros = 64;
+      rws = 72;
+    }
 
 abbrev bare : List ℕ
 bare = replicate 3152 238

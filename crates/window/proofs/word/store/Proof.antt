@@ -15,7 +15,13 @@ returns c =
     let t = n .before .before in
     let good = sym (t .before .refusal-to-store .ensures) ∙ t .if1 .taken in (
       t .before .refusal-to-store .ensures,
-      rw (eq-eqb _ 0 good, l .lay-high-first .ensures, l .before .word-place .ensures, n .number .ensures, n .before .without-reserved .ensures),
+      rw (
+        eq-eqb _ 0 good,
+        l .lay-high-first .ensures,
+        l .before .word-place .ensures,
+        n .number .ensures,
+        n .before .without-reserved .ensures,
+      ),
     )
 
 returns-2 : tie.Need-returns-2
