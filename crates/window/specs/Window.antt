@@ -88,12 +88,13 @@ unfoldable pub storeRefusal : ℕ → Configuration → Pointer → ℕ → ℕ
 storeRefusal window c p at =
     pick (allowed window c) (pick (pointerRight (partPlace c (pointsInto p) .length) at) 0 12) 1
 
--- the window after a word is stored: its four bytes, and where refused none
+-- a word's four bytes, laid where its pointer is held
+abbrev pub withWord : List ℕ → Configuration → Pointer → Word → List ℕ
+withWord s c p w = laid s (wordPlace c p) (wordBytes highFirst (numberOf (cleared p w)))
+
+-- the window after a word is stored; where refused nothing is
 unfoldable pub stored : List ℕ → Configuration → Pointer → Word → List ℕ
-stored s c p w =
-    pick (eqb (storeRefusal (length s) c p (w .pointer)) 0)
-    (laid s (wordPlace c p) (wordBytes highFirst (numberOf (cleared p w))))
-    s
+stored s c p w = pick (eqb (storeRefusal (length s) c p (w .pointer)) 0) (withWord s c p w) s
 
 -- the window after a pointer alone is stored: the flags are those that stood there
 unfoldable pub storedPointer : List ℕ → Configuration → Pointer → ℕ → List ℕ

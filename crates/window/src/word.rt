@@ -9,7 +9,7 @@ ghost use Rattle.octets.specs.Choice.{pick};
 ghost use Rattle.octets.specs.Words.{highFirst, wordAt};
 ghost use Rattle.mmbi.specs.Words.{wordOf};
 ghost use Rattle.window.specs.Window.{wordPlace, hasUp, cleared, interfaceIn};
-ghost use Rattle.window.specs.Window.{pointsInto, storeRefusal, stored, storedPointer};
+ghost use Rattle.window.specs.Window.{pointsInto, storeRefusal, withWord, stored, storedPointer};
 
 // The four pointers, by the words that hold them: H2B_WP and B2H_RP in Host_RWS, B2H_WP and H2B_RP in Host_ROS.
 pub enum Pointer {
@@ -137,6 +137,14 @@ fn refusal_to_store(window: usize, c: Configuration, which: Pointer, pointer: us
     }
 }
 
+// The word's four bytes, laid where this pointer is held.
+fn lay_word(window: &mut [u8], c: Configuration, which: Pointer, word: Word)
+    ensures { λ _. ⌜ now (window .exit) ≡ withWord (now (window .entry)) c which word ⌝ }
+{
+    let n = without_reserved(which, word).number();
+    octets::lay_high_first(window, word_place(c, which), n);
+}
+
 // The word, pointer and flags, stored where this pointer is held; 0, or the refusal's number with nothing stored.
 pub fn store(window: &mut [u8], c: Configuration, which: Pointer, word: Word) -> u8
     ensures { λ r. ⌜ r ≡ storeRefusal (length (now (window .entry))) c which (word .pointer) ⌝ }
@@ -144,8 +152,7 @@ pub fn store(window: &mut [u8], c: Configuration, which: Pointer, word: Word) ->
 {
     let refusal = refusal_to_store(window.len(), c, which, word.pointer);
     if refusal == 0 {
-        let n = without_reserved(which, word).number();
-        octets::lay_high_first(window, word_place(c, which), n);
+        lay_word(window, c, which, word);
     }
     refusal
 }
@@ -155,16 +162,19 @@ pub fn store_pointer(window: &mut [u8], c: Configuration, which: Pointer, pointe
     ensures { λ r. ⌜ r ≡ storeRefusal (length (now (window .entry))) c which pointer ⌝ }
     ensures { λ _. ⌜ now (window .exit) ≡ storedPointer (now (window .entry)) c which pointer ⌝ }
 {
-    let ok = descriptor::is_allowed(window.len(), c);
-    let held = word_where(window, ok, c, which);
-    store(
-        window,
-        c,
-        which,
-        Word {
-            pointer,
-            high: held.high,
-            low: held.low,
-        },
-    )
+    let refusal = refusal_to_store(window.len(), c, which, pointer);
+    if refusal == 0 {
+        let held = word_where(window, true, c, which);
+        lay_word(
+            window,
+            c,
+            which,
+            Word {
+                pointer,
+                high: held.high,
+                low: held.low,
+            },
+        );
+    }
+    refusal
 }

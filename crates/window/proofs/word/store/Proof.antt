@@ -11,18 +11,9 @@ returns : tie.Need-returns
 unfolding stored
 returns c =
     let l = c .before .before in
-    let n = l .before .before .before in
-    let t = n .before .before in
-    let good = sym (t .before .refusal-to-store .ensures) ∙ t .if1 .taken in (
-      t .before .refusal-to-store .ensures,
-      rw (
-        eq-eqb _ 0 good,
-        l .lay-high-first .ensures,
-        l .before .word-place .ensures,
-        n .number .ensures,
-        n .before .without-reserved .ensures,
-      ),
-    )
+    let t = l .before .before in
+    let asked = t .before .refusal-to-store .ensures in
+    (asked, rw (eq-eqb _ 0 (sym asked ∙ t .if1 .taken), l .lay-word .ensures))
 
 returns-2 : tie.Need-returns-2
 unfolding stored
@@ -32,13 +23,4 @@ returns-2 c =
 
 pub store-spec : {M : Type 1} → statement M
 store-spec =
-    tie.close
-    (tie.spec
-    (λ c κs. search needs)
-    (λ c κs. search needs)
-    (λ c κs. search needs)
-    (λ c κs. search needs)
-    (λ c κs. search needs)
-    (λ c. search needs)
-    returns
-    returns-2)
+    tie.close (tie.spec (λ c κs. search needs) (λ c κs. search needs) (λ c. search needs) returns returns-2)
