@@ -5,6 +5,7 @@ use crate::text::refused;
 use crate::text::say;
 use crate::text::tell;
 use receiver::Answer;
+use slots::Outcome;
 
 // The answer to a packet after a script.
 pub fn tell_after(size: usize, script: &[u8], last: usize, byte: u8) {
@@ -32,6 +33,14 @@ pub fn tell_answer(answer: Answer) {
             tell(b" length ", length);
             tell_again(again);
         }
+    }
+}
+
+// What a call that changes the receiver came to.
+pub fn tell_outcome(outcome: Outcome) {
+    match outcome {
+        Outcome::Good => say(b"good"),
+        Outcome::Refused(why) => refused(why),
     }
 }
 

@@ -1,11 +1,11 @@
 // The fields of a packet's header, and the EIDs that an endpoint can have.
 use crate::answers::tell_answer;
+use crate::answers::tell_outcome;
+use crate::packets::ORDER;
 use crate::packets::fresh;
-use crate::text::refused;
 use crate::text::say;
 use crate::text::tell;
 use mctp::Eid;
-use slots::Outcome;
 
 // The header F1 09 0A BD: its first four bits are reserved, BD is 1011 1101.
 pub fn tell_fields() {
@@ -31,15 +31,12 @@ fn tell_if(flag: bool, words: &[u8]) {
 pub fn tell_own(eid: u8) {
     let changed = slots::set_up(Eid(eid));
     let outcome = changed.outcome;
-    match outcome {
-        Outcome::Good => say(b"good"),
-        Outcome::Refused(why) => refused(why),
-    }
+    tell_outcome(outcome);
 }
 
 // A packet from this EID.
 pub fn tell_from(eid: u8) {
-    let mut packet = crate::packets::ORDER;
+    let mut packet = ORDER;
     packet[2] = eid;
     let mut memory = [0u8; 4096];
     let given = receiver::give(fresh(), &mut memory, &packet);

@@ -1,10 +1,8 @@
 // Keys and slots: five messages that differ in their tags, and four slots.
 use crate::answers::tell_after;
+use crate::answers::tell_outcome;
 use crate::packets::fresh;
 use crate::packets::front;
-use crate::text::refused;
-use crate::text::say;
-use slots::Outcome;
 
 // Four starts, the fifth that finds no slot, slot 2 freed, and the fifth again.
 const STARTS: [u8; 7] = [0x88, 0x89, 0x8A, 0x8B, 0x8C, 2, 0x8C];
@@ -18,8 +16,5 @@ pub fn tell(steps: usize, byte: u8) {
 pub fn tell_freed(slot: usize) {
     let changed = slots::free(fresh(), slot);
     let outcome = changed.outcome;
-    match outcome {
-        Outcome::Good => say(b"good"),
-        Outcome::Refused(why) => refused(why),
-    }
+    tell_outcome(outcome);
 }

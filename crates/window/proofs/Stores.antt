@@ -12,7 +12,6 @@ use native.Mathlib.Omega.{arith}
 use borrow.Author.Tests.{eq-eqb, ne-eqb}
 use lib.Dec.{eqb}
 use lib.ListN.{length}
-use Rattle.octets.specs.Bytes.{laid}
 use Rattle.octets.specs.Choice.{pick}
 use Rattle.octets.specs.Words.{highFirst, wordAt, wordBytes}
 use Rattle.octets.proofs.Laid.{laid-length}
@@ -27,7 +26,7 @@ use Rattle.descriptor.specs.declared.configuration.Part.the-variants.{B2h, H2b,
 use Rattle.window.specs.declared.word.Pointer.{Pointer}
 use Rattle.window.specs.declared.word.Pointer.the-variants.{H2bWrite, B2hRead, B2hWrite, H2bRead}
 use Rattle.descriptor.specs.Configuration.{partPlace, isRing, allowed, Clear, Allowed}
-use Rattle.window.specs.Window.{placeIn, bytesAt, partOf, wordPlace, hasUp, cleared, wordIn, pointsInto, storeRefusal, stored, storedPointer}
+use Rattle.window.specs.Window.{placeIn, bytesAt, partOf, wordPlace, hasUp, cleared, wordIn, pointsInto, storeRefusal, withWord, stored, storedPointer}
 use Rattle.descriptor.proofs.Configurations.{allowed-facts}
 use Rattle.window.proofs.Parts.{ring-right}
 use Rattle.window.proofs.LaidWords.{laid-word, laid-beside, laid-word-beside, word-length}
@@ -77,7 +76,7 @@ pub stored-length : (s : List ℕ) (c : Configuration) (p : Pointer) (w : Word) 
 unfolding stored
 stored-length s c p w = kept (eqb (storeRefusal (length s) c p (w .pointer)) 0)
   where
-    kept : (b : Bool) → length (pick b (laid s (wordPlace c p) (wordBytes highFirst (numberOf (cleared p w)))) s) ≡ length s
+    kept : (b : Bool) → length (pick b (withWord s c p w) s) ≡ length s
     kept true = laid-length s (wordPlace c p) (wordBytes highFirst (numberOf (cleared p w)))
     kept false = refl
 
@@ -98,7 +97,7 @@ module _ (s : List ℕ) (c : Configuration) (p : Pointer) (w : Word)
   ok : allowed (length s) c ≡ true
   ok = store-facts (length s) c p (w .pointer) good .0
 
-  stored-laid : stored s c p w ≡ laid s (wordPlace c p) (wordBytes highFirst (numberOf (cleared p w)))
+  stored-laid : stored s c p w ≡ withWord s c p w
   unfolding stored
   stored-laid = rw (eq-eqb (storeRefusal (length s) c p (w .pointer)) 0 good)
 

@@ -2,7 +2,7 @@
 -- Assumes nothing.
 use mathlib.Core.Path.{_≡_, sym, _∙_}
 use borrow.Author.Needs.{needs}
-use borrow.Author.Tests.{eq-eqb, ne-eqb}
+use borrow.Author.Tests.{eq-eqb}
 use Rattle.window.specs.Window.{wordIn, stored, storedPointer}
 use Rattle.window.proofs.Stores.{store-facts, pointer-refused}
 use Rattle.window.proofs.word.store_pointer.Statement.{statement}
