@@ -34,7 +34,8 @@ step-plus r q x y =
     ∙ poly-plus (bitXor (x * 128) r) (bitXor (y * 128) q)
 
 -- The remainder of the sum of two lists of bits is the sum of their remainders.
-pub bits-plus : (xs ys : List ℕ) (r q : ℕ) → length xs ≡ length ys → bitsFrom (bitXor r q) (plus xs ys) ≡ bitXor (bitsFrom r xs) (bitsFrom q ys)
+bits-plus : (xs ys : List ℕ) (r q : ℕ) → length xs ≡ length ys
+    → bitsFrom (bitXor r q) (plus xs ys) ≡ bitXor (bitsFrom r xs) (bitsFrom q ys)
 unfolding bitsFrom
 bits-plus xs ys r q e = fold-plus bitStep step-plus xs ys r q e
 

@@ -7,6 +7,7 @@ use native.Mathlib.Omega.{arith}
 use lib.ListN.{length, getD, take, drop, length-append}
 use lib.Seq.{getD-take, getD-drop, take-append-seam, drop-append-add, getD-append-seam}
 use Rattle.pec.specs.Wire.{bitsOf, wire, Change, WindowChange}
+use Rattle.pec.proofs.WireBits.{wire-append}
 
 -- Other bytes whose wire bits are the same up to a place, and again so many behind it.
 pub change-of : (width from : ℕ) (s t : List ℕ) → length s ≡ length t
@@ -39,11 +40,6 @@ wider m n s t h c =
 -- and no change within eight is left out of the law's premise.
 pub within-eight : (s t : List ℕ) → Change 8 s t → WindowChange s t
 within-eight s t c = wider 8 _ s t (omega arith) c
-
-wire-append : (s t : List ℕ) → wire (s ++ t) ≡ wire s ++ wire t
-unfolding wire bitsOf
-wire-append [] t = refl
-wire-append (b ∷ s) t = ap (λ (xs : List ℕ). bitsOf b ++ xs) (wire-append s t)
 
 module _ (s t : List ℕ) (a : ℕ) where
   front-bits : take (length (wire s)) (wire (s ++ a ∷ t)) ≡ wire s

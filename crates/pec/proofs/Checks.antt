@@ -13,7 +13,7 @@ use Rattle.pec.specs.Remainder.{polyStep, eightSteps, byteStep, pecOf}
 use Rattle.pec.specs.Sum.{plus}
 use Rattle.pec.specs.Wire.{Bytes, Checked}
 use Rattle.pec.proofs.Fold.{poly-byte, pec-byte, pec-last}
-use Rattle.pec.proofs.Sum.{pec-plus}
+use Rattle.pec.proofs.Sum.{plus-length, plus-bytes, pec-plus}
 use Rattle.pec.proofs.Tests.{below, passed}
 use Rattle.pec.proofs.Xor.{xor-equal}
 
@@ -80,6 +80,9 @@ zero-checked s b h e =
     (sym (xor-equal (pecOf front) end
     (eight-zero (bitXor (pecOf front) end) (xor-lt 8 (pecOf front) end (pec-byte front) (b (length s - 1))) sum)))
 
--- The sum of two checked lists of one length has the PEC 0.
-pub checked-plus : (s t : List ℕ) → length s ≡ length t → Checked s → Checked t → pecOf (plus s t) ≡ 0
-checked-plus s t e cs ct = pec-plus s t e ∙ ap₂ bitXor (checked-zero s cs) (checked-zero t ct)
+-- The one law of two lists' bitwise sum, on which both rules on wrong bits rest: if both are checked, so is it.
+pub checked-plus : (s t : List ℕ) → length s ≡ length t → Bytes s → Bytes t → Checked s → Checked t → Checked (plus s t)
+checked-plus s t e bs bt cs ct =
+    zero-checked (plus s t) (plus-bytes s t bs bt)
+    (omega (arith, plus-length s t e, ap length (cs .ends), length-append (cs .rest) (pecOf (cs .rest) ∷ [])))
+    (pec-plus s t e ∙ ap₂ bitXor (checked-zero s cs) (checked-zero t ct))

@@ -3,6 +3,7 @@ pub mod Changes
 pub mod Checks
 pub mod Determined
 pub mod Fold
+pub mod Neighbours
 pub mod Sum
 pub mod Table
 pub mod Tests

@@ -4,10 +4,12 @@ use mathlib.Core.Path.{_≡_, refl, ap, ap₂, _∙_}
 use mathlib.Core.List.{List, [], _∷_, foldl}
 use Prim.Native.Nat.{ℕ, zero, suc, _*_, _/_, _%_, _<_}
 use native.Mathlib.Omega.{arith}
-use lib.Bits.{bitXor, xor-mod}
+use lib.Bits.{bitXor, xor-mod, xor-lt}
+use lib.Dec.{lit<}
 use lib.ListN.{length, getD}
 use Rattle.pec.specs.Remainder.{lowTerms, polyStep, eightSteps, byteStep, pecFrom, pecOf}
 use Rattle.pec.specs.Sum.{plus}
+use Rattle.pec.specs.Wire.{Bytes}
 use Rattle.pec.proofs.Xor.{xor-swap, xor-up, xor-bit}
 
 abbrev Linear : (ℕ → ℕ) → Type 0
@@ -67,3 +69,18 @@ plus-at [] (b ∷ t) k e = absurd (omega arith)
 plus-at (a ∷ s) [] k e = absurd (omega arith)
 plus-at (a ∷ s) (b ∷ t) zero e = refl
 plus-at (a ∷ s) (b ∷ t) (suc k) e = plus-at s t k (omega arith)
+
+-- A sum is as long as what is summed,
+pub plus-length : (s t : List ℕ) → length s ≡ length t → length (plus s t) ≡ length s
+unfolding plus
+plus-length [] t e = refl
+plus-length (a ∷ s) [] e = absurd (omega arith)
+plus-length (a ∷ s) (b ∷ t) e = ap suc (plus-length s t (omega arith))
+
+-- and a sum of bytes is one of bytes.
+pub plus-bytes : (s t : List ℕ) → Bytes s → Bytes t → Bytes (plus s t)
+unfolding plus
+plus-bytes [] t hs ht i = lit< tt
+plus-bytes (a ∷ s) [] hs ht i = lit< tt
+plus-bytes (a ∷ s) (b ∷ t) hs ht zero = xor-lt 8 a b (hs 0) (ht 0)
+plus-bytes (a ∷ s) (b ∷ t) hs ht (suc i) = plus-bytes s t (λ k. hs (suc k)) (λ k. ht (suc k)) i
