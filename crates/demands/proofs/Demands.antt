@@ -9,12 +9,12 @@ use Rattle.octets.specs.Bytes.{Below, fronted}
 use Rattle.octets.specs.Words.{lowFirst, wordAt}
 use Rattle.mctp.specs.Packet.{packetSize, endOf}
 use Rattle.mctp.specs.Key.{keyOf}
-use Rattle.pec.specs.Wire.{WindowChange}
+use Rattle.pec.specs.Wire.{WindowChange, OddChange}
 use Rattle.smbus.specs.Frame.{frameOf}
 use Rattle.smbus.specs.Reading as smbus
 use Rattle.smbus.specs.Writing as frames
 use Rattle.smbus.proofs.Placing.{output-written, output-unwritten}
-use Rattle.smbus.proofs.Window.{window-refused}
+use Rattle.smbus.proofs.WrongBits.{window-refused, odd-refused}
 use Rattle.pcc.specs.Region.{regionWith, regionOf, regionFor}
 use Rattle.pcc.specs.Reading as pcc
 use Rattle.pcc.specs.Writing as regions
@@ -254,3 +254,10 @@ every-packet-by-a-ring = good.every-ring-base
 pub changed-frame-is-refused : (frame changed : List ℕ) → Below 256 frame → Below 256 changed → WindowChange frame changed
     → (own : ℕ) → smbus.refusalOf 64 frame own ≡ 0 → (other : ℕ) → smbus.refusalOf 64 changed other ≡ 0 → ⊥
 changed-frame-is-refused frame changed b c w own e other = window-refused frame changed b c w 64 own e 64 other
+
+-- "a good SMBus frame of any permitted length with one, three, or any other odd number of bits changed, anywhere, the
+-- PEC included, is refused" (document 02, #113): at every own address, and at every largest body
+pub odd-change-is-refused : (frame changed : List ℕ) → Below 256 frame → Below 256 changed → OddChange frame changed
+    → (most own : ℕ) → smbus.refusalOf most frame own ≡ 0
+    → (most′ other : ℕ) → smbus.refusalOf most′ changed other ≡ 0 → ⊥
+odd-change-is-refused = odd-refused

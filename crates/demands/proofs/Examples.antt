@@ -15,6 +15,7 @@ use Rattle.smbus.specs.Frame.{frameOf}
 use Rattle.smbus.specs.Reading as smbus
 use Rattle.smbus.specs.Writing as frames
 use Rattle.smbus.proofs.Literal.{literalFrame, literalPacket, literal-good}
+use Rattle.smbus.proofs.OddChanges.{threeBits, three-bits}
 use Rattle.smbus.proofs.Windows.{acrossBorder, across-border}
 use Rattle.pcc.specs.Region.{regionFor, regionOf, regionWith}
 use Rattle.pcc.specs.Reading as pcc
@@ -268,3 +269,8 @@ pub changed-frame-is-refused : (other : ℕ) → smbus.refusalOf 64 acrossBorder
 changed-frame-is-refused =
     demands.changed-frame-is-refused literalFrame acrossBorder (all-bytes literalFrame tt)
     (all-bytes acrossBorder tt) across-border 32 literal-good
+
+pub odd-change-is-refused : (most other : ℕ) → smbus.refusalOf most threeBits other ≡ 0 → ⊥
+odd-change-is-refused =
+    demands.odd-change-is-refused literalFrame threeBits (all-bytes literalFrame tt)
+    (all-bytes threeBits tt) three-bits 64 32 literal-good

@@ -1,9 +1,12 @@
 pub mod Bitwise
 pub mod Changes
 pub mod Checks
+pub mod Counts
 pub mod Determined
 pub mod Fold
 pub mod Neighbours
+pub mod Odd
+pub mod Parity
 pub mod Sum
 pub mod Table
 pub mod Tests

@@ -1,4 +1,4 @@
--- What a test that antt computes says: of two tests at once, of every number below a bound, of every element.
+-- What a test that antt computes says: of two tests at once, of all numbers below a bound, of all pairs, of a list.
 -- Assumes nothing.
 use mathlib.Core.Path.{_≡_}
 use mathlib.Core.Bool.{Bool, true, false, _&&_}
@@ -26,6 +26,10 @@ passed f zero t k h = absurd (not-suc-le-zero h)
 passed f (suc n) t k h =
     dite (ℕ-discrete k n) (λ (e : k ≡ n). rw e (both (f n) (below f n) t .0))
     (λ (e : k ≡ n → ⊥). passed f n (both (f n) (below f n) t .1) k (omega arith))
+
+-- A test of every two numbers below m and n.
+pub passed-two : (f : ℕ → ℕ → Bool) (m n : ℕ) → T (below (λ i. below (f i) n) m) → (j k : ℕ) → j < m → k < n → T (f j k)
+passed-two f m n t j k hj hk = passed (f j) n (passed (λ i. below (f i) n) m t j hj) k hk
 
 -- A test of every element of a list: all are bytes.
 abbrev pub allBytes : List ℕ → Bool

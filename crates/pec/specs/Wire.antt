@@ -1,11 +1,13 @@
--- What a frame is on the wire, what a checked one is, and what a change within some neighbouring wire bits is.
--- Document 01, "SMBus frame", and demand 3.
+-- What a frame is on the wire, what a checked one is, and which changes of its wire bits the PEC finds.
+-- Document 01, "SMBus frame"; demand 3; document 02, #113.
 -- Assumes nothing.
 use mathlib.Core.Path.{_≡_}
 use mathlib.Core.List.{List, [], _∷_, _++_}
 use Prim.Native.Nat.{ℕ, _+_, _/_, _%_, _≤_, _<_}
+use lib.Dec.{eqb}
 use lib.ListN.{length, getD}
 use Rattle.octets.specs.Bytes.{Below}
+use Rattle.octets.specs.Choice.{pick}
 use Rattle.pec.specs.Remainder.{pecOf}
 
 -- A list of bytes, and no larger numbers.
@@ -38,3 +40,14 @@ pub record Change (width : ℕ) (s t : List ℕ) : Type 0 where
 -- "one or more bits changed, all within eight neighbouring bits in wire order"
 abbrev pub WindowChange : List ℕ → List ℕ → Type 0
 WindowChange s t = Change 8 s t
+
+-- In how many places two lists of bits differ, as far as both go.
+unfoldable pub differences : List ℕ → List ℕ → ℕ
+differences [] ys = 0
+differences (x ∷ xs) [] = 0
+differences (x ∷ xs) (y ∷ ys) = pick (eqb x y) 0 1 + differences xs ys
+
+-- "one, three, or any other odd number of bits changed, anywhere, the PEC included": t is s so changed.
+pub record OddChange (s t : List ℕ) : Type 0 where
+  pub lengths : length s ≡ length t
+  pub odd : differences (wire s) (wire t) % 2 ≡ 1

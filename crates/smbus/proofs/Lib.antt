@@ -4,9 +4,11 @@ pub mod Framing
 pub mod Literal
 pub mod Made
 pub mod Octets
+pub mod OddChanges
 pub mod Order
 pub mod Placing
 pub mod Refusing
 pub mod RoundTrip
-pub mod Window
+pub mod TwoBits
 pub mod Windows
+pub mod WrongBits

@@ -10,7 +10,7 @@ use Rattle.pec.proofs.Changes.{change-of, byte-changed}
 use Rattle.pec.proofs.Tests.{all-bytes}
 use Rattle.smbus.specs.Reading.{refusalOf}
 use Rattle.smbus.proofs.Literal.{literalFrame, literal-good}
-use Rattle.smbus.proofs.Window.{window-refused}
+use Rattle.smbus.proofs.WrongBits.{window-refused}
 
 -- its first bit alone: 40 made C0
 abbrev pub firstBit : List ℕ
