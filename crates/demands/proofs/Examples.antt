@@ -9,13 +9,16 @@ use lib.Dec.{lit≤}
 use lib.ListN.{length, take, replicate}
 use Rattle.octets.specs.Bytes.{Below, fronted}
 use Rattle.octets.specs.Words.{lowFirst, wordAt}
+use Rattle.octets.proofs.Below.{below-zeros}
 use Rattle.mctp.specs.Key.{keyOf}
 use Rattle.pec.proofs.Tests.{all-bytes}
 use Rattle.smbus.specs.Frame.{frameOf}
 use Rattle.smbus.specs.Reading as smbus
 use Rattle.smbus.specs.Writing as frames
 use Rattle.smbus.proofs.Literal.{literalFrame, literalPacket, literal-good}
-use Rattle.smbus.proofs.OddChanges.{threeBits, three-bits}
+use Rattle.smbus.proofs.Octets.{frame-bytes}
+use Rattle.smbus.proofs.OddChanges.{threeBits, three-bits, wrongPec, wrong-pec, wrong-pec-bytes}
+use Rattle.smbus.proofs.RoundTrip.{frame-number}
 use Rattle.smbus.proofs.Windows.{acrossBorder, across-border}
 use Rattle.pcc.specs.Region.{regionFor, regionOf, regionWith}
 use Rattle.pcc.specs.Reading as pcc
@@ -274,3 +277,15 @@ pub odd-change-is-refused : (most other : ℕ) → smbus.refusalOf most threeBit
 odd-change-is-refused =
     demands.odd-change-is-refused literalFrame threeBits (all-bytes literalFrame tt)
     (all-bytes threeBits tt) three-bits 64 32 literal-good
+
+-- the longest frame of all, 255 bytes: the largest packet where the largest body is 246, the last bit of its PEC wrong
+abbrev pub largestPacket : List ℕ
+largestPacket = replicate 250 0
+
+pub odd-change-of-255-bytes : (most other : ℕ) → smbus.refusalOf most (wrongPec 32 17 largestPacket) other ≡ 0 → ⊥
+odd-change-of-255-bytes =
+    demands.odd-change-is-refused (frameOf 32 17 largestPacket) (wrongPec 32 17 largestPacket)
+    (frame-bytes 32 17 largestPacket (lit≤ tt) (lit≤ tt) (lit≤ tt) (below-zeros 250))
+    (wrong-pec-bytes 32 17 largestPacket (lit≤ tt) (lit≤ tt) (lit≤ tt) (below-zeros 250))
+    (wrong-pec 32 17 largestPacket) 246 32
+    (frame-number 246 32 17 largestPacket (lit≤ tt) (lit≤ tt) (lit≤ tt) (lit≤ tt) (lit≤ tt))

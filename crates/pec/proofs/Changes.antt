@@ -1,7 +1,7 @@
--- Which changes lie within a window: the premise of the window law is met, by every change of one byte among others.
+-- Which changes lie within a window: the premise of the window rule is met, by every change of one byte among others.
 -- Assumes nothing.
-use mathlib.Core.Path.{_≡_, refl, sym, ap, _∙_}
-use mathlib.Core.List.{List, [], _∷_, _++_}
+use mathlib.Core.Path.{_≡_, sym, ap, _∙_}
+use mathlib.Core.List.{List, _∷_, _++_}
 use Prim.Native.Nat.{ℕ, _+_, _-_, _≤_}
 use native.Mathlib.Omega.{arith}
 use lib.ListN.{length, getD, take, drop, length-append}
@@ -37,7 +37,7 @@ wider m n s t h c =
       differs = c .differs;
     }
 
--- and no change within eight is left out of the law's premise.
+-- and no change within eight is left out of the rule's premise.
 pub within-eight : (s t : List ℕ) → Change 8 s t → WindowChange s t
 within-eight s t c = wider 8 _ s t (omega arith) c
 

@@ -1,4 +1,5 @@
--- When a list is checked: its last byte is the PEC of the rest, which for bytes is to say that its own PEC is 0.
+-- When a list is checked: its last byte is the PEC of the rest, which for bytes is to say that its own PEC is 0; and so
+-- is the bitwise sum of two checked lists.
 -- Assumes nothing.
 use mathlib.Core.Path.{_≡_, refl, sym, ap, ap₂, _∙_}
 use mathlib.Core.Bool.{Bool, not}
@@ -80,7 +81,7 @@ zero-checked s b h e =
     (sym (xor-equal (pecOf front) end
     (eight-zero (bitXor (pecOf front) end) (xor-lt 8 (pecOf front) end (pec-byte front) (b (length s - 1))) sum)))
 
--- The one law of two lists' bitwise sum, on which both rules on wrong bits rest: if both are checked, so is it.
+-- The one law of two lists' bitwise sum, on which both rules on wrong bits rest: it is checked if both are.
 pub checked-plus : (s t : List ℕ) → length s ≡ length t → Bytes s → Bytes t → Checked s → Checked t → Checked (plus s t)
 checked-plus s t e bs bt cs ct =
     zero-checked (plus s t) (plus-bytes s t bs bt)

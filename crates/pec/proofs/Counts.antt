@@ -1,13 +1,11 @@
--- How many wire bits a change makes wrong: the premise of the rule of odd counts is met, by one byte among others too.
+-- How many wire bits a change makes wrong, and which changes meet the premise of the rule of odd counts.
 -- Assumes nothing.
 use mathlib.Core.Path.{_≡_, refl, sym, ap, ap₂, _∙_}
 use mathlib.Core.List.{List, [], _∷_, _++_}
 use Prim.Native.Nat.{ℕ, _+_, _%_}
 use native.Mathlib.Omega.{arith}
-use lib.Dec.{eqb}
 use lib.ListN.{length, length-append}
 use borrow.Author.Tests.{eq-eqb}
-use Rattle.octets.specs.Choice.{pick}
 use Rattle.pec.specs.Wire.{bitsOf, wire, differences, OddChange}
 use Rattle.pec.proofs.WireBits.{wire-append}
 
@@ -31,7 +29,7 @@ differences-none [] = refl
 differences-none (x ∷ xs) = rw (eq-eqb x x refl) (omega (arith, differences-none xs))
 
 -- so one byte made another counts by its own bits, wherever it stands.
-pub byte-differences : (s t : List ℕ) (a b : ℕ)
+byte-differences : (s t : List ℕ) (a b : ℕ)
     → differences (wire (s ++ a ∷ t)) (wire (s ++ b ∷ t)) ≡ differences (bitsOf a) (bitsOf b)
 unfolding wire bitsOf
 byte-differences s t a b =
@@ -41,6 +39,7 @@ byte-differences s t a b =
     (differences-append (bitsOf a) (bitsOf b) (wire t) (wire t) refl)
     ∙ omega (arith, differences-none (wire t))
 
+-- One byte made another in an odd number of its bits meets the premise.
 pub byte-odd : (s t : List ℕ) (a b : ℕ) → differences (bitsOf a) (bitsOf b) % 2 ≡ 1
     → OddChange (s ++ a ∷ t) (s ++ b ∷ t)
 byte-odd s t a b h =

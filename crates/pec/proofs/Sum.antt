@@ -1,4 +1,4 @@
--- The law of the bitwise sum: the PEC of a sum is the sum of the PECs.
+-- The bitwise sum of two lists: its PEC is the sum of their PECs, its places are theirs summed, and it is as long.
 -- Assumes nothing.
 use mathlib.Core.Path.{_≡_, refl, ap, ap₂, _∙_}
 use mathlib.Core.List.{List, [], _∷_, foldl}

@@ -1,5 +1,5 @@
--- What the wire bits of a list are: bits, as many for lists of one length, part by part, the same only for the same
--- bytes; those of a bitwise sum are the sum of both lists' bits.
+-- The wire bits of a list: they are bits, as many for lists of one length; they are taken part by part; the same bits
+-- come of the same bytes alone; and those of a bitwise sum are the sum of both lists' bits.
 -- Assumes nothing.
 use mathlib.Core.Path.{_≡_, refl, sym, ap, ap₂, _∙_}
 use mathlib.Core.Bool.{Bool}
@@ -33,14 +33,14 @@ wire-bits (b ∷ s) =
     odd-first (b / 128 ∷ b / 64 ∷ b / 32 ∷ b / 16 ∷ b / 8 ∷ b / 4 ∷ b / 2 ∷ b ∷ []) (wire s) (wire-bits s)
 
 -- as many for lists of one length,
-pub wire-length : (s t : List ℕ) → length s ≡ length t → length (wire s) ≡ length (wire t)
+wire-length : (s t : List ℕ) → length s ≡ length t → length (wire s) ≡ length (wire t)
 unfolding wire bitsOf
 wire-length [] [] e = refl
 wire-length [] (b ∷ t) e = absurd (omega arith)
 wire-length (a ∷ s) [] e = absurd (omega arith)
 wire-length (a ∷ s) (b ∷ t) e = ap (λ (n : ℕ). suc (suc (suc (suc (suc (suc (suc (suc n)))))))) (wire-length s t (omega arith))
 
--- part by part,
+-- taken part by part,
 pub wire-append : (s t : List ℕ) → wire (s ++ t) ≡ wire s ++ wire t
 unfolding wire bitsOf
 wire-append [] t = refl

@@ -1,7 +1,7 @@
 -- A frame is made of bytes where its packet is and both addresses are up to 127.
 -- Assumes nothing.
 use mathlib.Core.List.{List, [], _∷_, _++_}
-use Prim.Native.Nat.{ℕ, zero, suc, _≤_}
+use Prim.Native.Nat.{ℕ, zero, suc, _≤_, _<_}
 use native.Mathlib.Omega.{arith}
 use lib.ListN.{length}
 use Rattle.octets.proofs.Below.{below-nil, below-cons, below-append}
@@ -19,9 +19,15 @@ module _ (destination source : ℕ) (packet : List ℕ) (to : destination ≤ 12
   head-bytes (suc (suc (suc zero))) = omega arith
   head-bytes (suc (suc (suc (suc i)))) = omega arith
 
+  -- with any byte where the PEC stands,
+  pub ended-bytes : (end : ℕ) → end < 256 → Bytes packet → Bytes (coveredOf destination source packet ++ (end ∷ []))
+  unfolding coveredOf
+  ended-bytes end h b =
+      below-append (coveredOf destination source packet) (end ∷ [])
+      (below-append (headOf destination source packet) packet head-bytes b) (below-cons end [] h below-nil)
+
+  -- and with the PEC itself
   pub frame-bytes : Bytes packet → Bytes (frameOf destination source packet)
-  unfolding frameOf coveredOf
-  frame-bytes b =
-      below-append (coveredOf destination source packet) (pecOf (coveredOf destination source packet) ∷ [])
-      (below-append (headOf destination source packet) packet head-bytes b)
-      (below-cons (pecOf (coveredOf destination source packet)) [] (pec-byte (coveredOf destination source packet)) below-nil)
+  unfolding frameOf
+  frame-bytes =
+      ended-bytes (pecOf (coveredOf destination source packet)) (pec-byte (coveredOf destination source packet))

@@ -22,8 +22,10 @@ twoBits =
     ∷ 0x80 ∷ 0x00 ∷ 0x00 ∷ 0x00 ∷ 0x00 ∷ 0x00 ∷ 0x00 ∷ 0x00 ∷ 0x00 ∷ 0x00 ∷ 0x00 ∷ 0x00 ∷ 0x00 ∷ 0x00 ∷ 0x00 ∷ 0x01
     ∷ 0x43 ∷ []
 
--- "An even number isn't covered": the other factor of the polynomial divides x^127 + 1, so these two bits cancel.
+-- Both lie behind byte 3, whose bits end at place 31. The polynomial divides x^127 + 1, so the PEC stays as it is.
 pub record TwoPass : Type 0 where
+  pub one-length : length zeroBody ≡ 26
+  pub other-length : length twoBits ≡ 26
   pub one-good : refusalOf 64 zeroBody 32 ≡ 0
   pub other-good : refusalOf 64 twoBits 32 ≡ 0
   pub two : differences (wire zeroBody) (wire twoBits) ≡ 2
@@ -32,4 +34,13 @@ pub record TwoPass : Type 0 where
 
 pub two-pass : TwoPass
 unfolding refusalOf endOf beforeEnd pecOf pecFrom byteStep eightSteps polyStep differences wire bitsOf
-two-pass = record { one-good = refl; other-good = refl; two = refl; first = refl; second = refl }
+two-pass =
+    record {
+      one-length = refl;
+      other-length = refl;
+      one-good = refl;
+      other-good = refl;
+      two = refl;
+      first = refl;
+      second = refl;
+    }

@@ -1,16 +1,15 @@
--- The premise of the window law is met: three changes of document 01's good frame, each within eight wire bits.
+-- The premise of the window rule is met: three changes of document 01's good frame, each within eight wire bits.
 -- Assumes nothing.
 use mathlib.Core.Path.{_≡_, refl, ap}
 use mathlib.Core.List.{List, [], _∷_}
 use Prim.Native.Nat.{ℕ}
 use native.Mathlib.Omega.{arith}
 use lib.ListN.{getD}
-use Rattle.pec.specs.Wire.{Bytes, bitsOf, wire, WindowChange}
+use Rattle.pec.specs.Wire.{bitsOf, wire, WindowChange}
 use Rattle.pec.proofs.Changes.{change-of, byte-changed}
-use Rattle.pec.proofs.Tests.{all-bytes}
 use Rattle.smbus.specs.Reading.{refusalOf}
-use Rattle.smbus.proofs.Literal.{literalFrame, literal-good}
-use Rattle.smbus.proofs.WrongBits.{window-refused}
+use Rattle.smbus.proofs.Literal.{literalFrame}
+use Rattle.smbus.proofs.WrongBits.{window-refused, literal-refused}
 
 -- its first bit alone: 40 made C0
 abbrev pub firstBit : List ℕ
@@ -37,17 +36,12 @@ pub other-pec : WindowChange literalFrame otherPec
 other-pec =
     byte-changed (0x40 ∷ 0x0F ∷ 0x06 ∷ 0x23 ∷ 0x01 ∷ 0x09 ∷ 0x0A ∷ 0xC8 ∷ 0x00 ∷ []) [] 0x71 0x8E (λ e. omega arith)
 
--- so the law speaks of them: none is good at any address
-refused : (changed : List ℕ) → Bytes changed → WindowChange literalFrame changed
-    → (own : ℕ) → refusalOf 64 changed own ≡ 0 → ⊥
-refused changed bytes change own =
-    window-refused literalFrame changed (all-bytes literalFrame tt) bytes change 64 32 literal-good 64 own
-
+-- so the rule speaks of them: none is good at any address
 pub first-bit-refused : (own : ℕ) → refusalOf 64 firstBit own ≡ 0 → ⊥
-first-bit-refused = refused firstBit (all-bytes firstBit tt) first-bit
+first-bit-refused = literal-refused WindowChange window-refused firstBit tt first-bit
 
 pub across-border-refused : (own : ℕ) → refusalOf 64 acrossBorder own ≡ 0 → ⊥
-across-border-refused = refused acrossBorder (all-bytes acrossBorder tt) across-border
+across-border-refused = literal-refused WindowChange window-refused acrossBorder tt across-border
 
 pub other-pec-refused : (own : ℕ) → refusalOf 64 otherPec own ≡ 0 → ⊥
-other-pec-refused = refused otherPec (all-bytes otherPec tt) other-pec
+other-pec-refused = literal-refused WindowChange window-refused otherPec tt other-pec
