@@ -1,5 +1,5 @@
--- When a list is checked: its last byte is the PEC of the rest, which for bytes is to say that its own PEC is 0; and so
--- is the bitwise sum of two checked lists.
+-- When a list is checked: its last byte is the PEC of the rest, which for bytes is to say that its own PEC is 0.
+-- The bitwise sum of two checked lists is checked.
 -- Assumes nothing.
 use mathlib.Core.Path.{_≡_, refl, sym, ap, ap₂, _∙_}
 use mathlib.Core.Bool.{Bool, not}

@@ -17,6 +17,7 @@ use Rattle.smbus.specs.Frame.{coveredOf, frameOf}
 use Rattle.smbus.specs.Reading.{endOf, beforeEnd, refusalOf}
 use Rattle.smbus.proofs.Literal.{literalFrame}
 use Rattle.smbus.proofs.Octets.{ended-bytes}
+use Rattle.smbus.proofs.Windows.{firstBit}
 use Rattle.smbus.proofs.WrongBits.{odd-refused, literal-refused}
 
 -- one bit of the body: 00 made 04
@@ -31,7 +32,7 @@ threeBits = 0x40 ∷ 0x0F ∷ 0x06 ∷ 0xA3 ∷ 0x01 ∷ 0x09 ∷ 0x1A ∷ 0xC8 
 abbrev pub bitOfPec : List ℕ
 bitOfPec = 0x40 ∷ 0x0F ∷ 0x06 ∷ 0x23 ∷ 0x01 ∷ 0x09 ∷ 0x0A ∷ 0xC8 ∷ 0x00 ∷ 0xF1 ∷ []
 
--- how many places differ, and which: so many are all
+-- in how many places each differs from the frame, and in which
 pub record Counted : Type 0 where
   pub one : differences (wire literalFrame) (wire oneBit) ≡ 1
   pub three : differences (wire literalFrame) (wire threeBits) ≡ 3
@@ -74,10 +75,18 @@ three-bits-refused = literal-refused OddChange odd-refused threeBits tt three-bi
 pub bit-of-pec-refused : (own : ℕ) → refusalOf 64 bitOfPec own ≡ 0 → ⊥
 bit-of-pec-refused = literal-refused OddChange odd-refused bitOfPec tt bit-of-pec
 
--- and each has the PEC's number at the frame's own address, 0x20.
+-- and at the frame's own address each has the PEC's number.
 pub refused-with-8 : (refusalOf 64 oneBit 32 ≡ 8) × (refusalOf 64 threeBits 32 ≡ 8) × (refusalOf 64 bitOfPec 32 ≡ 8)
 unfolding refusalOf endOf beforeEnd pecOf pecFrom byteStep eightSteps polyStep
 refused-with-8 = (refl, refl, refl)
+
+-- A wrong bit in byte 0 meets an earlier check there, and so does one in the count: 06 made 07.
+abbrev pub countBit : List ℕ
+countBit = 0x40 ∷ 0x0F ∷ 0x07 ∷ 0x23 ∷ 0x01 ∷ 0x09 ∷ 0x0A ∷ 0xC8 ∷ 0x00 ∷ 0x71 ∷ []
+
+pub refused-before-8 : (refusalOf 64 firstBit 32 ≡ 4) × (refusalOf 64 countBit 32 ≡ 6)
+unfolding refusalOf
+refused-before-8 = (refl, refl)
 
 -- The last bit of a byte made the other is one wrong bit.
 lastBit : ℕ → Bool
