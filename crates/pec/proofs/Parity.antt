@@ -44,8 +44,8 @@ parity [] r h b = omega arith
 parity (x ∷ xs) r h b =
     omega (arith, parity xs (bitStep r x) (bit-byte r x) (λ k. b (suc k)), step-parity x r (b 0) h)
 
--- A list of bytes that ends with its own PEC has an even number of one bits: it is a multiple of x^8 + x^2 + x + 1, and
--- x + 1 divides that (four terms, so 0 at x = 1), so it divides the list too, which then is 0 at x = 1.
+-- A list of bytes that ends with its own PEC has an even number of one bits: it is a multiple of x^8 + x^2 + x + 1, so
+-- x + 1, which divides that (four terms: 0 at x = 1), divides the list too, and its ones cancel at x = 1.
 pub checked-even : (s : List ℕ) → Bytes s → Checked s → ones (wire s) % 2 ≡ 0
 unfolding ones bitsOf
 checked-even s b c =
