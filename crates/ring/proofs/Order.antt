@@ -2,7 +2,7 @@
 -- Assumes nothing.
 use mathlib.Core.Path.{_≡_, refl}
 use mathlib.Core.Bool.{true, false}
-use mathlib.Core.List.{List, [], _∷_, map}
+use mathlib.Core.List.{List, [], _∷_, _++_, map}
 use Prim.Native.Nat.{ℕ}
 use lib.ListN.{replicate}
 use Rattle.octets.specs.Words.{wordAt}
@@ -31,6 +31,9 @@ pub record Reading : Type 0 where
   -- a pointer at 124, and at the length
   pub pointers : map (λ (read : ℕ). reading.takenOf 64 (headed 0 0 11 4) 128 true read 124 68) (124 ∷ 128 ∷ [])
       ≡ reading.empty ∷ reading.refused 12 ∷ []
+  -- 12 bytes up to the ring's end: filled 12, 16, 4 and 8
+  pub ends : map (λ (write : ℕ). reading.takenOf 64 (replicate 116 238 ++ (0 ∷ 0 ∷ 11 ∷ 4 ∷ replicate 8 238)) 128 true 116 write 68) (0 ∷ 4 ∷ 120 ∷ 124 ∷ [])
+      ≡ reading.packet 5 0 ∷ reading.packet 5 0 ∷ reading.refused 13 ∷ reading.refused 13 ∷ []
 
 pub reading-order : Reading
 unfolding reading.takenOf reading.judged filledOf nextOf turn wordAt
@@ -45,6 +48,7 @@ reading-order =
       fourteen-three = refl;
       sizes = refl;
       pointers = refl;
+      ends = refl;
     }
 
 -- "Writing: 1, 3, 11, 12, 2 (needs more than room)"
@@ -58,6 +62,9 @@ pub record Writing : Type 0 where
       ≡ writing.refused 2 ∷ writing.written 12 ∷ writing.refused 2 ∷ []
   pub sizes : map (writing.putOf 64 128 128 true 0 0) (4 ∷ 5 ∷ 68 ∷ 69 ∷ [])
       ≡ writing.refused 3 ∷ writing.written 12 ∷ writing.written 72 ∷ writing.refused 3 ∷ []
+  -- 12 bytes that end before the ring's end, at it and behind it
+  pub ends : map (λ (write : ℕ). writing.putOf 64 128 128 true write write 5) (112 ∷ 116 ∷ 120 ∷ [])
+      ≡ writing.written 124 ∷ writing.written 0 ∷ writing.written 4 ∷ []
   -- "a multiple of 4 from 128 to 65,536"
   pub lengths : map (λ (n : ℕ). writing.putOf 64 n n true 0 0 5) (124 ∷ 128 ∷ 130 ∷ 65536 ∷ 65540 ∷ 131200 ∷ [])
       ≡ writing.refused 1 ∷ writing.written 12 ∷ writing.refused 1 ∷ writing.written 12 ∷ writing.refused 1
@@ -73,5 +80,6 @@ writing-order =
       twelve-two = refl;
       rooms = refl;
       sizes = refl;
+      ends = refl;
       lengths = refl;
     }

@@ -29,12 +29,17 @@ pub fn size_right(most: usize, size: usize) -> bool
     (5 <= size) & (size <= 4 + most)
 }
 
-// "Filled is (write − read) modulo the ring length."
+// "Filled is (write − read) modulo the ring length": where the write pointer stands before the read pointer, one length
+// is added.
 pub fn filled(length: usize, read: usize, write: usize) -> usize
     requires { ⌜ (length ≤ 65536) × (read < length) × (write < length) ⌝ }
     ensures { λ r. ⌜ r ≡ filledOf length read write ⌝ }
 {
-    (length + write - read) % length
+    if read <= write {
+        write - read
+    } else {
+        length + write - read
+    }
 }
 
 // "Room is length − filled − 4 (house rule), so a full ring never looks empty."
@@ -45,10 +50,16 @@ pub fn room(length: usize, read: usize, write: usize) -> usize
     length - filled(length, read, write) - 4
 }
 
-// The pointer `n` bytes after another, round the ring's end.
+// The pointer `n` bytes after another, round the ring's end. One subtraction is enough, as a pointer is below the length
+// and what is added is at most the length.
 pub fn next(length: usize, pointer: usize, n: usize) -> usize
     requires { ⌜ (length ≤ 65536) × (pointer < length) × (n ≤ length) ⌝ }
     ensures { λ r. ⌜ r ≡ nextOf length pointer n ⌝ }
 {
-    (pointer + n) % length
+    let after = pointer + n;
+    if after < length {
+        after
+    } else {
+        after - length
+    }
 }

@@ -1,6 +1,8 @@
 -- `ring::number::filled` meets its contract.
 -- Assumes nothing.
-use Rattle.ring.specs.Numbers.{filledOf}
+use mathlib.Core.Path.{sym}
+use native.Mathlib.Omega.{arith}
+use Rattle.ring.proofs.Numbers.{filled-near, filled-over}
 use borrow.Author.Needs.{needs}
 use Rattle.ring.proofs.number.filled.Statement.{statement}
 use Rattle.ring.proofs.number.filled.Tie as tie
@@ -11,12 +13,11 @@ add-result c = search needs
 sub-result : tie.Need-sub-result
 sub-result c = search needs
 
-rem-result : tie.Need-rem-result
-rem-result c = search needs
-
 returns : tie.Need-returns
-unfolding filledOf
-returns c = search needs
+returns c = sym (filled-near _ _ _ (c .if1 .taken) (omega arith))
+
+returns-2 : tie.Need-returns-2
+returns-2 c = sym (filled-over _ _ _ (omega arith) (omega arith))
 
 pub filled-spec : {M : Type 1} → statement M
-filled-spec = tie.close (tie.spec add-result sub-result rem-result returns)
+filled-spec = tie.close (tie.spec add-result sub-result returns returns-2)

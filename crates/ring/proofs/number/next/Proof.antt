@@ -1,19 +1,20 @@
 -- `ring::number::next` meets its contract.
 -- Assumes nothing.
-use Rattle.ring.specs.Numbers.{nextOf}
+use mathlib.Core.Path.{sym}
+use native.Mathlib.Omega.{arith}
+use Rattle.ring.proofs.Numbers.{next-near, next-over}
 use borrow.Author.Needs.{needs}
 use Rattle.ring.proofs.number.next.Statement.{statement}
 use Rattle.ring.proofs.number.next.Tie as tie
 
-add-result : tie.Need-add-result
-add-result c = search needs
-
-rem-result : tie.Need-rem-result
-rem-result c = search needs
+add-after : tie.Need-add-after
+add-after c = search needs
 
 returns : tie.Need-returns
-unfolding nextOf
-returns c = search needs
+returns c = sym (next-near _ _ _ (c .if1 .taken))
+
+returns-2 : tie.Need-returns-2
+returns-2 c = sym (next-over _ _ _ (omega arith) (omega arith))
 
 pub next-spec : {M : Type 1} → statement M
-next-spec = tie.close (tie.spec add-result rem-result returns)
+next-spec = tie.close (tie.spec add-after returns returns-2)
