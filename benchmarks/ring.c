@@ -1,17 +1,19 @@
-/* Packets put into a ring and taken out of it, round and round: two versions in turns. Prints nanoseconds and their ratio. */
+/* Packets put into a ring and taken out of it, round and round, by two versions in turns: nanoseconds and ratio. */
 #include <stdbool.h>
 #include <stdint.h>
 #include <stdio.h>
 #include <stdlib.h>
 #include <time.h>
 
-typedef size_t reader(const uint8_t *ring, size_t lent, size_t length, bool up, size_t read, size_t write, uint8_t *out, size_t room);
-typedef size_t writer(uint8_t *ring, size_t lent, size_t length, bool up, size_t read, size_t write, const uint8_t *packet, size_t size);
+typedef size_t reader(const uint8_t *ring, size_t lent, size_t length, bool up, size_t read, size_t write,
+                      uint8_t *out, size_t room);
+typedef size_t writer(uint8_t *ring, size_t lent, size_t length, bool up, size_t read, size_t write,
+                      const uint8_t *packet, size_t size);
 
 extern reader ring_read, read_before;
 extern writer ring_write, write_before;
 
-/* A multiple of 72 and of 12, which packets of 68 and of 5 bytes take; from START on, one of them runs over the ring's end. */
+/* A multiple of 72 and of 12, which packets of 68 and of 5 bytes take; from START on, one runs over the ring's end. */
 enum { LENGTH = 1152, START = 40, TIMES = 500000, TURNS = 15 };
 static uint8_t ring[LENGTH], out[68], packet[68] = {1, 9, 10, 0xC8};
 
@@ -61,7 +63,9 @@ static double less(double a, double b) { return a < b ? a : b; }
 
 static void told(const char *call, size_t size, double before, double now)
 {
-    printf("%s, a packet of %2zu bytes: before %6.1f ns, now %6.1f ns, ratio %.2f\n", call, size, before / TIMES * 1e9, now / TIMES * 1e9, now / before);
+    double each = 1e9 / TIMES;
+    printf("%s, a packet of %2zu bytes: before %6.1f ns, now %6.1f ns, ratio %.2f\n", call, size, before * each,
+           now * each, now / before);
 }
 
 static void compare(size_t size)

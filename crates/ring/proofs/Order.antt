@@ -15,6 +15,10 @@ use Rattle.ring.specs.Writing as writing
 abbrev headed : ℕ → ℕ → ℕ → ℕ → List ℕ
 headed a b c d = a ∷ b ∷ c ∷ d ∷ replicate 124 238
 
+-- a ring of 128 bytes whose last 12 are a packet of 5
+abbrev at-the-end : List ℕ
+at-the-end = replicate 116 238 ++ (0 ∷ 0 ∷ 11 ∷ 4 ∷ replicate 8 238)
+
 -- "1 (length outside the rule, or not that of the lent ring), 2 (output under 68), 11, 12, EMPTY, 13, 14, 3"
 pub record Reading : Type 0 where
   pub one-two : reading.takenOf 64 [] 128 true 0 12 67 ≡ reading.refused 1
@@ -31,8 +35,8 @@ pub record Reading : Type 0 where
   -- a pointer at 124, and at the length
   pub pointers : map (λ (read : ℕ). reading.takenOf 64 (headed 0 0 11 4) 128 true read 124 68) (124 ∷ 128 ∷ [])
       ≡ reading.empty ∷ reading.refused 12 ∷ []
-  -- 12 bytes up to the ring's end: filled 12, 16, 4 and 8
-  pub ends : map (λ (write : ℕ). reading.takenOf 64 (replicate 116 238 ++ (0 ∷ 0 ∷ 11 ∷ 4 ∷ replicate 8 238)) 128 true 116 write 68) (0 ∷ 4 ∷ 120 ∷ 124 ∷ [])
+  -- up to the ring's end: filled 12, 16, 4 and 8
+  pub ends : map (λ (write : ℕ). reading.takenOf 64 at-the-end 128 true 116 write 68) (0 ∷ 4 ∷ 120 ∷ 124 ∷ [])
       ≡ reading.packet 5 0 ∷ reading.packet 5 0 ∷ reading.refused 13 ∷ reading.refused 13 ∷ []
 
 pub reading-order : Reading

@@ -50,8 +50,8 @@ pub fn room(length: usize, read: usize, write: usize) -> usize
     length - filled(length, read, write) - 4
 }
 
-// The pointer `n` bytes after another, round the ring's end. One subtraction is enough, as a pointer is below the length
-// and what is added is at most the length.
+// The pointer `n` bytes after another, round the ring's end. One subtraction is enough, as a pointer is below the
+// length and what is added is at most the length.
 pub fn next(length: usize, pointer: usize, n: usize) -> usize
     requires { ⌜ (length ≤ 65536) × (pointer < length) × (n ≤ length) ⌝ }
     ensures { λ r. ⌜ r ≡ nextOf length pointer n ⌝ }
