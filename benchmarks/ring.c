@@ -6,7 +6,7 @@
 #include <time.h>
 
 typedef size_t reader(const uint8_t *ring, size_t lent, size_t length, bool up, size_t read, size_t write,
-                      uint8_t *out, size_t room);
+                      uint8_t *out, size_t lent_out);
 typedef size_t writer(uint8_t *ring, size_t lent, size_t length, bool up, size_t read, size_t write,
                       const uint8_t *packet, size_t size);
 
@@ -24,7 +24,7 @@ static double seconds(void)
     return (double)t.tv_sec + (double)t.tv_nsec * 1e-9;
 }
 
-static void ended(size_t at)
+static void none_refused(size_t at)
 {
     if (at >= LENGTH) {
         puts("a packet was refused");
@@ -40,7 +40,7 @@ static double write_all(writer *write, size_t size)
     for (int i = 0; i < TIMES; i++)
         at = write(ring, LENGTH, LENGTH, true, at, at, packet, size);
     double to = seconds();
-    ended(at);
+    none_refused(at);
     return to - from;
 }
 
@@ -55,7 +55,7 @@ static double read_all(reader *read, size_t size)
         at = next;
     }
     double to = seconds();
-    ended(at);
+    none_refused(at);
     return to - from;
 }
 

@@ -66,7 +66,7 @@ pub record Writing : Type 0 where
       ≡ writing.refused 2 ∷ writing.written 12 ∷ writing.refused 2 ∷ []
   pub sizes : map (writing.putOf 64 128 128 true 0 0) (4 ∷ 5 ∷ 68 ∷ 69 ∷ [])
       ≡ writing.refused 3 ∷ writing.written 12 ∷ writing.written 72 ∷ writing.refused 3 ∷ []
-  -- 12 bytes that end before the ring's end, at it and behind it
+  -- 12 bytes that end before the ring's end, at it and over it
   pub ends : map (λ (write : ℕ). writing.putOf 64 128 128 true write write 5) (112 ∷ 116 ∷ 120 ∷ [])
       ≡ writing.written 124 ∷ writing.written 0 ∷ writing.written 4 ∷ []
   -- "a multiple of 4 from 128 to 65,536"

@@ -14,7 +14,7 @@ sub-result : tie.Need-sub-result
 sub-result c = search needs
 
 returns : tie.Need-returns
-returns c = sym (filled-near _ _ _ (c .if1 .taken) (omega arith))
+returns c = sym (filled-near _ _ _ (omega arith) (omega arith))
 
 returns-2 : tie.Need-returns-2
 returns-2 c = sym (filled-over _ _ _ (omega arith) (omega arith))

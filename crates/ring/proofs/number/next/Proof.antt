@@ -11,7 +11,7 @@ add-after : tie.Need-add-after
 add-after c = search needs
 
 returns : tie.Need-returns
-returns c = sym (next-near _ _ _ (c .if1 .taken))
+returns c = sym (next-near _ _ _ (omega arith))
 
 returns-2 : tie.Need-returns-2
 returns-2 c = sym (next-over _ _ _ (omega arith) (omega arith))
