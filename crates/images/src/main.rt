@@ -10,7 +10,7 @@ mod words;
 use descriptors::FAR;
 
 // The words around the images. A byte of 0x80 or more stands for an image, or for what reading it tells.
-const PACKETS: [u8; 1159] = *b"SMBus
+const PACKETS: [u8; 1490] = *b"SMBus
 smbus packet 01 09 0A C8 00 from address 17 to address 32 is the frame\x80
 smbus that frame read at address 32: \x81
 smbus that frame read at address 33: \x82
@@ -33,6 +33,10 @@ ring read with read 0, write 8, which cuts the packet: \xA5
 ring read with read 2, write 12: \xA6
 ring read with read 0, write 128: \xA7
 ring read with read 0, write 12, while the host asks for a reset: \xA8
+ring read with read 0, write 12, while the controller asks for a reset: \xA9
+ring read with read 0, write 12, once the reset is acknowledged: \xAA
+ring packet 01 09 0A C8 00 written with read 0, write 0, while the host asks for a reset: \xAB
+ring packet 01 09 0A C8 00 written with read 0, write 0, while the controller asks for a reset: \xAC
 ring packet 01 09 0A C8 00 written with read 12, write 0, which leaves room for 8: \xB0
 ring packet 01 09 0A C8 00 written with read 16, write 0, which leaves room for 12: \xB1
 ring packet 01 09 0A C8 00 written with read 120, write 120, over the end: \xB2
@@ -151,18 +155,22 @@ fn show_packet(place: u8) {
         0xA0 => rings::write(0, 0),
         0xA1 => rings::show(0, 0, 12),
         0xA2 => rings::show(0, 12, 16),
-        0xA3 => rings::read(0, 0, 12, false),
-        0xA4 => rings::read(0, 12, 12, false),
-        0xA5 => rings::read(0, 0, 8, false),
-        0xA6 => rings::read(0, 2, 12, false),
-        0xA7 => rings::read(0, 0, 128, false),
-        0xA8 => rings::read(0, 0, 12, true),
+        0xA3 => rings::read(0, 0, 12),
+        0xA4 => rings::read(0, 12, 12),
+        0xA5 => rings::read(0, 0, 8),
+        0xA6 => rings::read(0, 2, 12),
+        0xA7 => rings::read(0, 0, 128),
+        0xA8 => rings::read_asked(false, true),
+        0xA9 => rings::read_asked(true, false),
+        0xAA => rings::read_asked(true, true),
+        0xAB => rings::write_asked(false, true),
+        0xAC => rings::write_asked(true, false),
         0xB0 => rings::write(12, 0),
         0xB1 => rings::write(16, 0),
         0xB2 => rings::write(120, 120),
         0xB3 => rings::show(120, 120, 128),
         0xB4 => rings::show(120, 0, 4),
-        _ => rings::read(120, 120, 4, false),
+        _ => rings::read(120, 120, 4),
     }
 }
 

@@ -2,12 +2,13 @@
 -- Assumes nothing.
 use mathlib.Core.Path.{_≡_, refl}
 use mathlib.Core.Bool.{Bool, true, false}
-use mathlib.Core.List.{List, [], _∷_, map}
+use mathlib.Core.List.{[], _∷_, map}
 use Rattle.octets.specs.Choice.{pick}
 use Rattle.mmbi.specs.declared.interface.Flags.{Flags}
 use Rattle.mmbi.specs.declared.interface.InterfaceState.{InterfaceState}
 use Rattle.mmbi.specs.declared.interface.InterfaceState.the-variants.{InitializationInProgress, InitializationCompleted, NormalRuntime, ResetRequestByController, ResetRequestByHost, ResetAcked, TransitioningToInitialization, TemporaryTransition, InitializationMismatch, Unexpected}
-use Rattle.mmbi.specs.Interface.{row, flagsOf, sixteen, stateOf, isTransient, mayRead, mayWrite}
+use Rattle.mmbi.specs.Interface.{row, flagsOf, normalRuntime, askedByHost, askedByController, sixteen, stateOf}
+use Rattle.mmbi.specs.Interface.{isTransient, mayRead, mayWrite}
 
 -- Table 5 by the controller's flags and then the host's, as the code has it
 abbrev byEnds : Bool → Bool → Bool → Bool → InterfaceState
@@ -68,15 +69,20 @@ pub all-transient :
 unfolding stateOf
 all-transient = refl
 
--- "Ring reading and writing happen only in normal runtime.": in one flag state of the sixteen
-abbrev onlyRunning : List Bool
-onlyRunning = false ∷ false ∷ false ∷ false ∷ false ∷ false ∷ false ∷ false ∷ false ∷ false ∷ true ∷ false ∷ false ∷ false ∷ false ∷ false ∷ []
-
-pub all-may-read : map (λ (f : Flags). mayRead (stateOf f)) sixteen ≡ onlyRunning
+-- "Reading is now allowed in normal runtime and in both reset-asked states": in 1010, 1011 and 1110, and in no other of
+-- the sixteen
+pub all-may-read :
+    map (λ (f : Flags). mayRead (stateOf f)) sixteen
+    ≡ false ∷ false ∷ false ∷ false ∷ false ∷ false ∷ false ∷ false
+    ∷ false ∷ false ∷ true ∷ true ∷ false ∷ false ∷ true ∷ false ∷ []
 unfolding stateOf
 all-may-read = refl
 
-pub all-may-write : map (λ (f : Flags). mayWrite (stateOf f)) sixteen ≡ onlyRunning
+-- "writing stays in normal runtime only": in 1010
+pub all-may-write :
+    map (λ (f : Flags). mayWrite (stateOf f)) sixteen
+    ≡ false ∷ false ∷ false ∷ false ∷ false ∷ false ∷ false ∷ false
+    ∷ false ∷ false ∷ true ∷ false ∷ false ∷ false ∷ false ∷ false ∷ []
 unfolding stateOf
 all-may-write = refl
 
@@ -89,3 +95,10 @@ flags-0000 = refl
 pub flags-1010 : stateOf (flagsOf true false true false) ≡ NormalRuntime
 unfolding stateOf
 flags-1010 = refl
+
+-- the flags that have a name, and their states
+pub named :
+    map stateOf (normalRuntime ∷ askedByHost ∷ askedByController ∷ [])
+    ≡ NormalRuntime ∷ ResetRequestByHost ∷ ResetRequestByController ∷ []
+unfolding stateOf
+named = refl

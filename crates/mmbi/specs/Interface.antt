@@ -29,6 +29,16 @@ row false false true true = Unexpected
 abbrev pub flagsOf : Bool → Bool → Bool → Bool → Flags
 flagsOf bUp bRst hUp hRst = record { «controller_up» = bUp; «controller_reset» = bRst; «host_up» = hUp; «host_reset» = hRst }
 
+-- "1010 normal runtime; 1011 reset asked by host; 1110 reset asked by controller"
+abbrev pub normalRuntime : Flags
+normalRuntime = flagsOf true false true false
+
+abbrev pub askedByHost : Flags
+askedByHost = flagsOf true false true true
+
+abbrev pub askedByController : Flags
+askedByController = flagsOf true true true false
+
 -- the sixteen flag states, from 0000 to 1111
 abbrev pub sixteen : List Flags
 sixteen =
@@ -68,22 +78,28 @@ isTransient TemporaryTransition = true
 isTransient InitializationMismatch = true
 isTransient Unexpected = true
 
-abbrev pub isNormalRuntime : InterfaceState → Bool
-isNormalRuntime InitializationInProgress = false
-isNormalRuntime InitializationCompleted = false
-isNormalRuntime NormalRuntime = true
-isNormalRuntime ResetRequestByController = false
-isNormalRuntime ResetRequestByHost = false
-isNormalRuntime ResetAcked = false
-isNormalRuntime TransitioningToInitialization = false
-isNormalRuntime TemporaryTransition = false
-isNormalRuntime InitializationMismatch = false
-isNormalRuntime Unexpected = false
-
--- "Ring reading and writing happen only in normal runtime.": reading
+-- "Reading is now allowed in normal runtime and in both reset-asked states" (document 02, #104)
 abbrev pub mayRead : InterfaceState → Bool
-mayRead s = isNormalRuntime s
+mayRead InitializationInProgress = false
+mayRead InitializationCompleted = false
+mayRead NormalRuntime = true
+mayRead ResetRequestByController = true
+mayRead ResetRequestByHost = true
+mayRead ResetAcked = false
+mayRead TransitioningToInitialization = false
+mayRead TemporaryTransition = false
+mayRead InitializationMismatch = false
+mayRead Unexpected = false
 
--- and writing
+-- "writing stays in normal runtime only"
 abbrev pub mayWrite : InterfaceState → Bool
-mayWrite s = isNormalRuntime s
+mayWrite InitializationInProgress = false
+mayWrite InitializationCompleted = false
+mayWrite NormalRuntime = true
+mayWrite ResetRequestByController = false
+mayWrite ResetRequestByHost = false
+mayWrite ResetAcked = false
+mayWrite TransitioningToInitialization = false
+mayWrite TemporaryTransition = false
+mayWrite InitializationMismatch = false
+mayWrite Unexpected = false

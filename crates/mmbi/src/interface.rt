@@ -1,7 +1,7 @@
 // The state of the interface, from the four flags of both ends (Table 5 of 003).
 ghost use mathlib.Core.Path.{_≡_};
 ghost use Rattle.octets.specs.Choice.{pick};
-ghost use Rattle.mmbi.specs.Interface.{stateOf, isTransient, isNormalRuntime, mayRead, mayWrite};
+ghost use Rattle.mmbi.specs.Interface.{stateOf, isTransient, mayRead, mayWrite};
 
 // B_UP, B_RST, H_UP and H_RST.
 pub struct Flags {
@@ -105,29 +105,35 @@ pub fn transient(s: InterfaceState) -> bool
     }
 }
 
-// Whether a ring may be read.
+// Whether a ring may be read: in normal runtime, and while either end asks for a reset, so that what was queued isn't
+// dropped.
 pub fn may_read(s: InterfaceState) -> bool
     ensures { λ r. ⌜ r ≡ mayRead s ⌝ }
 {
-    is_normal_runtime(s)
+    match s {
+        InterfaceState::InitializationInProgress => false,
+        InterfaceState::InitializationCompleted => false,
+        InterfaceState::NormalRuntime => true,
+        InterfaceState::ResetRequestByController => true,
+        InterfaceState::ResetRequestByHost => true,
+        InterfaceState::ResetAcked => false, // no longer a "reset-asked" state
+        InterfaceState::TransitioningToInitialization => false,
+        InterfaceState::TemporaryTransition => false,
+        InterfaceState::InitializationMismatch => false,
+        InterfaceState::Unexpected => false,
+    }
 }
 
-// Whether a ring may be written.
+// Whether a ring may be written: in normal runtime alone.
 pub fn may_write(s: InterfaceState) -> bool
     ensures { λ r. ⌜ r ≡ mayWrite s ⌝ }
-{
-    is_normal_runtime(s)
-}
-
-fn is_normal_runtime(s: InterfaceState) -> bool
-    ensures { λ r. ⌜ r ≡ isNormalRuntime s ⌝ }
 {
     match s {
         InterfaceState::InitializationInProgress => false,
         InterfaceState::InitializationCompleted => false,
         InterfaceState::NormalRuntime => true,
         InterfaceState::ResetRequestByController => false,
-        InterfaceState::ResetRequestByHost => false,
+        InterfaceState::ResetRequestByHost => false, // "Host not allowed to write to any MMBI structures"
         InterfaceState::ResetAcked => false,
         InterfaceState::TransitioningToInitialization => false,
         InterfaceState::TemporaryTransition => false,
