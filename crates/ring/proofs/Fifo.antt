@@ -1,87 +1,181 @@
--- First in, first out: any list of packets that fits, written one after the other, is read back in order, after those that the ring held.
+-- First in, first out: any list of packets that fits, written one after the other, is read back in order, after those
+-- that the ring held, in whichever states a ring may be read.
 -- Assumes nothing.
 use mathlib.Core.Path.{_≡_, refl, ap, sym, subst, _∙_}
-use mathlib.Core.Bool.{true}
+use mathlib.Core.Bool.{true, false}
 use mathlib.Core.List.{List, [], _∷_, _++_, append-assoc, append-nil}
 use Prim.Native.Nat.{ℕ, _+_, _≤_}
 use native.Mathlib.Omega.{arith}
-use lib.ListN.{length, drop}
-use lib.Seq.{length-take-le, take-at}
+use lib.ListN.{length, take, drop}
+use lib.Seq.{length-take-le, take-at, take-length}
 use Rattle.octets.specs.Bytes.{fronted}
 use Rattle.octets.proofs.Choice.{both, within-bounds}
 use Rattle.mctp.specs.Packet.{packetSize}
-use Rattle.ring.specs.Numbers.{filledOf, roomOf, nextOf}
+use Rattle.mmbi.specs.declared.interface.Flags.{Flags}
+use Rattle.mmbi.specs.Interface.{normalRuntime, stateOf, mayRead, mayWrite}
+use Rattle.mmbi.specs.Pointers.{pointerRight}
+use Rattle.mmbi.proofs.Pointers.{pointer-facts}
+use Rattle.ring.specs.Numbers.{setUpRight, filledOf, roomOf, nextOf}
 use Rattle.ring.specs.Packet.{wholeFor, ringBytes}
 use Rattle.ring.specs.Reading as reading
-use Rattle.ring.specs.Runs.{allSized, spaceFor, allBytes, Kept, pointerAfter, wrote, writeAll, andThen, readAll}
+use Rattle.ring.specs.Runs.{allSized, spaceFor, allBytes, Kept, pointerAfter, wrote, writeAll, queued}
+use Rattle.ring.specs.Runs.{allReadable, andThen, readAll}
 use Rattle.ring.specs.Turn.{turn, stored}
 use Rattle.ring.specs.Writing as writing
 use Rattle.ring.proofs.Held.{Holds, holds-none, holds-written, holds-taken}
-use Rattle.mmbi.proofs.Pointers.{Pointer}
 use Rattle.ring.proofs.Numbers.{filled-below, filled-empty, filled-room, filled-written}
 use Rattle.ring.proofs.Readings as readings
-use Rattle.ring.proofs.Readings.{SetUp}
 use Rattle.ring.proofs.RoundTrip.{read-first, room-none}
 use Rattle.ring.proofs.Turns.{turn-length}
 use Rattle.ring.proofs.Writings as writings
 
--- a packet that fits is stored, and the write pointer moves on
-wrote-one : (most configured read : ℕ) (kept : Kept) (held : List (List ℕ)) (p : List ℕ) → Holds most configured (kept .ring) read (kept .write) held → packetSize most (length p) ≡ true → wholeFor (length p) ≤ roomOf configured read (kept .write)
-    → wrote most configured read kept p ≡ record { ring = stored (kept .ring) (kept .write) (ringBytes p); write = nextOf configured (kept .write) (wholeFor (length p)) }
-unfolding wrote
-wrote-one most configured read kept held p h sized room =
-    let b = within-bounds 5 (4 + most) (length p) sized in
-    let e = writings.good-written most (length (kept .ring)) configured true read (kept .write) (length p) (nextOf configured (kept .write) (wholeFor (length p)))
-    (record { set-up = h .set-up; least = b .0; largest = b .1; runs = refl; from = h .from; to = h .to; room = room; after = refl }) in
-    λ i. record { ring = writing.ringOf (e i) (kept .ring) (kept .write) p; write = pointerAfter (e i) (kept .write) }
+-- packets written in a state that lets a ring be written
+module _ (most configured : ℕ) (flags : Flags) (may : mayWrite (stateOf flags) ≡ true) (read : ℕ) where
+  -- a packet that fits is stored, and the write pointer moves on
+  wrote-one : (kept : Kept) (held : List (List ℕ)) (p : List ℕ)
+      → Holds most configured (kept .ring) read (kept .write) held
+      → packetSize most (length p) ≡ true → wholeFor (length p) ≤ roomOf configured read (kept .write)
+      → wrote most configured flags read kept p
+      ≡ record {
+        ring = stored (kept .ring) (kept .write) (ringBytes p);
+        write = nextOf configured (kept .write) (wholeFor (length p));
+      }
+  unfolding wrote
+  wrote-one kept held p h sized room =
+      let b = within-bounds 5 (4 + most) (length p) sized in
+      let next = nextOf configured (kept .write) (wholeFor (length p)) in
+      let e = writings.good-written most (length (kept .ring)) configured (mayWrite (stateOf flags)) read (kept .write)
+      (length p) next
+      (record {
+        set-up = h .set-up;
+        least = b .0;
+        largest = b .1;
+        runs = may;
+        from = h .from;
+        to = h .to;
+        room = room;
+        after = refl;
+      }) in
+      λ i. record {
+        ring = writing.ringOf (e i) (kept .ring) (kept .write) p;
+        write = pointerAfter (e i) (kept .write);
+      }
 
--- packets that fit are held behind those that were
-pub all-written : (most configured read : ℕ) (kept : Kept) (held packets : List (List ℕ)) → Holds most configured (kept .ring) read (kept .write) held → allSized most packets ≡ true → spaceFor packets ≤ roomOf configured read (kept .write)
-    → Holds most configured (writeAll most configured read kept packets .ring) read (writeAll most configured read kept packets .write) (held ++ packets)
-unfolding writeAll allSized spaceFor
-all-written most configured read kept held [] h sized room = rw (append-nil held) h
-all-written most configured read kept held (p ∷ packets) h sized room =
-    let s = both (packetSize most (length p)) (allSized most packets) sized in
-    let n = wholeFor (length p) in
-    let fits : n ≤ roomOf configured read (kept .write) = omega arith in
-    let one = wrote-one most configured read kept held p h (s .0) fits in
-    let after : Kept = record { ring = stored (kept .ring) (kept .write) (ringBytes p); write = nextOf configured (kept .write) n } in
-    let now = holds-written most configured (kept .ring) read (kept .write) held p h (s .0) fits in
-    let before = filled-room configured read (kept .write) (h .set-up .size) (h .from) (h .to) in
-    let more = filled-written configured read (kept .write) n (h .from .below) (h .to .below) (omega arith) in
-    let then = filled-room configured read (after .write) (h .set-up .size) (h .from) (now .to) in
-    let rest = all-written most configured read after (held ++ (p ∷ [])) packets now (s .1) (omega arith) in
-    subst (λ (k : Kept). Holds most configured (writeAll most configured read k packets .ring) read (writeAll most configured read k packets .write) (held ++ (p ∷ packets))) (sym one)
-    (rw (append-assoc held (p ∷ []) packets) at rest)
+  -- packets that fit are held behind those that were
+  pub all-written : (kept : Kept) (held packets : List (List ℕ))
+      → Holds most configured (kept .ring) read (kept .write) held
+      → allSized most packets ≡ true → spaceFor packets ≤ roomOf configured read (kept .write)
+      → Holds most configured (writeAll most configured flags read kept packets .ring) read
+      (writeAll most configured flags read kept packets .write) (held ++ packets)
+  unfolding writeAll allSized spaceFor
+  all-written kept held [] h sized room = rw (append-nil held) h
+  all-written kept held (p ∷ packets) h sized room =
+      let s = both (packetSize most (length p)) (allSized most packets) sized in
+      let n = wholeFor (length p) in
+      let fits : n ≤ roomOf configured read (kept .write) = omega arith in
+      let one = wrote-one kept held p h (s .0) fits in
+      let after : Kept = record {
+        ring = stored (kept .ring) (kept .write) (ringBytes p);
+        write = nextOf configured (kept .write) n;
+      } in
+      let now = holds-written most configured (kept .ring) read (kept .write) held p h (s .0) fits in
+      let before = filled-room configured read (kept .write) (h .set-up .size) (h .from) (h .to) in
+      let more = filled-written configured read (kept .write) n (h .from .below) (h .to .below) (omega arith) in
+      let then = filled-room configured read (after .write) (h .set-up .size) (h .from) (now .to) in
+      let rest = all-written after (held ++ (p ∷ [])) packets now (s .1) (omega arith) in
+      subst
+      (λ (k : Kept). Holds most configured (writeAll most configured flags read k packets .ring) read
+      (writeAll most configured flags read k packets .write) (held ++ (p ∷ packets)))
+      (sym one) (rw (append-assoc held (p ∷ []) packets) at rest)
 
--- the packets that a ring holds are read in order
-pub all-read : (most configured : ℕ) (ring out : List ℕ) (read write : ℕ) (packets : List (List ℕ)) → Holds most configured ring read write packets → 4 + most ≤ length out
-    → readAll most configured ring out write (length packets) read ≡ packets
-unfolding readAll fronted
-all-read most configured ring out read write [] h room = refl
-all-read most configured ring out read write (p ∷ packets) h room =
-    let e = read-first most configured ring read write packets p out h room in
-    ap (λ (l : reading.Left). andThen (l .says) (l .output) (readAll most configured ring out write (length packets))) e
-    ∙ ap (λ (q : List ℕ). q ∷ readAll most configured ring out write (length packets) (nextOf configured read (wholeFor (length p)))) (take-at p (drop (length p) out) (length p) refl)
-    ∙ ap (λ (ps : List (List ℕ)). p ∷ ps) (all-read most configured ring out (nextOf configured read (wholeFor (length p))) write packets (holds-taken most configured ring read write packets p h) room)
+-- packets read from a ring that holds some
+module _ (most configured : ℕ) (ring : List ℕ) (write : ℕ) where
+  -- after the last packet the answer is EMPTY
+  pub all-read-empty : (read output : ℕ) → Holds most configured ring read write [] → 4 + most ≤ output
+      → reading.takenOf most ring configured true read write output ≡ reading.empty
+  unfolding allBytes
+  all-read-empty read output h room =
+      let under = filled-below configured read write (h .from .below) (h .to .below) in
+      let same = h .set-up .same in
+      let none : filledOf configured read write ≡ 0 =
+      sym
+      (length-take-le (filledOf configured read write) (turn read ring) (omega (arith, turn-length read ring)))
+      ∙ ap length (h .bytes) in
+      readings.taken-empty most ring configured true read write output
+      (readings.set-up-holds most configured (length ring) (h .set-up)) room refl
+      (readings.pointers-holds configured read write (h .from) (h .to))
+      (filled-empty configured read write (h .from .below) (h .to .below) none)
+
+  module _ (out : List ℕ) (room : 4 + most ≤ length out) where
+    -- one read, where the state lets a ring be read
+    one-read : (flags : Flags) (states : List Flags) (read : ℕ) → mayRead (stateOf flags) ≡ true
+        → readAll most configured ring out write (flags ∷ states) read
+        ≡ andThen (reading.readOf most ring configured true read write out .says)
+        (reading.readOf most ring configured true read write out .output)
+        (readAll most configured ring out write states)
+    unfolding readAll
+    one-read flags states read may = rw may
+
+    -- each read gives the next of the packets that the ring holds
+    pub all-read : (states : List Flags) (read : ℕ) (packets : List (List ℕ))
+        → Holds most configured ring read write packets → allReadable states ≡ true
+        → readAll most configured ring out write states read ≡ take (length states) packets
+    unfolding readAll allReadable fronted
+    all-read [] read packets h may = refl
+    all-read (flags ∷ states) read [] h may =
+        let m = both (mayRead (stateOf flags)) (allReadable states) may in
+        one-read flags states read (m .0)
+        ∙ ap
+        (λ (s : reading.Said). andThen s (reading.outputOf s (turn read ring) out)
+        (readAll most configured ring out write states))
+        (all-read-empty read (length out) h room)
+    all-read (flags ∷ states) read (p ∷ packets) h may =
+        let m = both (mayRead (stateOf flags)) (allReadable states) may in
+        let next = nextOf configured read (wholeFor (length p)) in
+        one-read flags states read (m .0)
+        ∙ ap
+        (λ (l : reading.Left). andThen (l .says) (l .output) (readAll most configured ring out write states))
+        (read-first most configured ring read write packets p out h room)
+        ∙ ap (λ (q : List ℕ). q ∷ readAll most configured ring out write states next)
+        (take-at p (drop (length p) out) (length p) refl)
+        ∙ ap (λ (ps : List (List ℕ)). p ∷ ps)
+        (all-read states next packets (holds-taken most configured ring read write packets p h) (m .1))
 
 -- first in, first out, of a ring that holds packets already
-pub fifo-behind : (most configured read : ℕ) (kept : Kept) (held packets : List (List ℕ)) (out : List ℕ) → Holds most configured (kept .ring) read (kept .write) held → allSized most packets ≡ true → spaceFor packets ≤ roomOf configured read (kept .write) → 4 + most ≤ length out
-    → readAll most configured (writeAll most configured read kept packets .ring) out (writeAll most configured read kept packets .write) (length (held ++ packets)) read ≡ held ++ packets
-fifo-behind most configured read kept held packets out h sized room long =
-    all-read most configured (writeAll most configured read kept packets .ring) out read (writeAll most configured read kept packets .write) (held ++ packets) (all-written most configured read kept held packets h sized room) long
+module _ (most configured read : ℕ) (out : List ℕ) (long : 4 + most ≤ length out) (states : List Flags)
+    (may-read : allReadable states ≡ true) where
+  pub fifo-behind : (flags : Flags) → mayWrite (stateOf flags) ≡ true → (kept : Kept) (held packets : List (List ℕ))
+      → Holds most configured (kept .ring) read (kept .write) held
+      → allSized most packets ≡ true → spaceFor packets ≤ roomOf configured read (kept .write)
+      → readAll most configured (writeAll most configured flags read kept packets .ring) out
+      (writeAll most configured flags read kept packets .write) states read
+      ≡ take (length states) (held ++ packets)
+  fifo-behind flags may kept held packets h sized room =
+      all-read most configured (writeAll most configured flags read kept packets .ring)
+      (writeAll most configured flags read kept packets .write) out long states read (held ++ packets)
+      (all-written most configured flags may read kept held packets h sized room) may-read
 
--- and of an empty ring, from any pointer
-pub fifo : (most configured pointer : ℕ) (ring : List ℕ) (packets : List (List ℕ)) (out : List ℕ) → SetUp most configured (length ring) → Pointer configured pointer → allSized most packets ≡ true → spaceFor packets + 4 ≤ configured → 4 + most ≤ length out
-    → readAll most configured (writeAll most configured pointer (record { ring = ring; write = pointer }) packets .ring) out (writeAll most configured pointer (record { ring = ring; write = pointer }) packets .write) (length packets) pointer ≡ packets
-fifo most configured pointer ring packets out set-up at sized fits long =
-    fifo-behind most configured pointer (record { ring = ring; write = pointer }) [] packets out (holds-none most configured ring pointer set-up at) sized (omega (arith, room-none configured pointer (set-up .size) at)) long
+  -- and of an empty ring, from any pointer: as many reads as packets give them all
+  pub fifo : (ring : List ℕ) (packets : List (List ℕ)) → setUpRight most configured (length ring) ≡ true
+      → pointerRight configured read ≡ true → allSized most packets ≡ true → spaceFor packets + 4 ≤ configured
+      → length states ≡ length packets
+      → readAll most configured (queued most configured ring read packets .ring) out
+      (queued most configured ring read packets .write) states read ≡ packets
+  unfolding stateOf
+  fifo ring packets right at sized fits many =
+      let set-up = readings.set-up-facts most configured (length ring) right in
+      let pointer = pointer-facts configured read at in
+      fifo-behind normalRuntime refl (record { ring = ring; write = read }) [] packets
+      (holds-none most configured ring read set-up pointer) sized
+      (omega (arith, room-none configured read (set-up .size) pointer))
+      ∙ ap (λ (n : ℕ). take n packets) many ∙ take-length packets
 
--- after the last packet the answer is EMPTY
-pub all-read-empty : (most configured : ℕ) (ring : List ℕ) (read write output : ℕ) → Holds most configured ring read write [] → 4 + most ≤ output → reading.takenOf most ring configured true read write output ≡ reading.empty
-unfolding allBytes
-all-read-empty most configured ring read write output h room =
-    let under = filled-below configured read write (h .from .below) (h .to .below) in
-    let same = h .set-up .same in
-    let none : filledOf configured read write ≡ 0 = sym (length-take-le (filledOf configured read write) (turn read ring) (omega (arith, turn-length read ring))) ∙ ap length (h .bytes) in
-    readings.taken-empty most ring configured true read write output (readings.set-up-holds most configured (length ring) (h .set-up)) room refl (readings.pointers-holds configured read write (h .from) (h .to)) (filled-empty configured read write (h .from .below) (h .to .below) none)
+-- nothing is queued where the state doesn't let a ring be written
+pub not-queued : (most : ℕ) (ring : List ℕ) (configured : ℕ) (flags : Flags) (read write : ℕ) (p : List ℕ)
+    → setUpRight most configured (length ring) ≡ true → packetSize most (length p) ≡ true
+    → mayWrite (stateOf flags) ≡ false
+    → writing.writeOf most ring configured (mayWrite (stateOf flags)) read write p
+    ≡ writing.left (writing.refused 11) ring
+not-queued most ring configured flags read write p right sized closed =
+    ap (λ (s : writing.Said). writing.left s (writing.ringOf s ring write p))
+    (writings.put-11 most (length ring) configured (mayWrite (stateOf flags)) read write (length p) right sized closed)

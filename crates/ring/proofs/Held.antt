@@ -154,7 +154,7 @@ module _ (most configured : ℕ) (ring : List ℕ) (read write : ℕ) (packets :
       record {
         set-up = h .set-up;
         room = room;
-        runs = refl;
+        may = refl;
         from = h .from;
         to = h .to;
         some = λ (e : read ≡ write).

@@ -72,7 +72,7 @@ same-output empty s t out e = refl
 same-output (skipped number next) s t out e = refl
 same-output (refused number) s t out e = refl
 
-module _ (most : ℕ) (a b : List ℕ) (configured : ℕ) (running : Bool) (read write : ℕ) (same : length a ≡ length b) (h : SameHeader (turn read a) (turn read b)) where
+module _ (most : ℕ) (a b : List ℕ) (configured : ℕ) (readable : Bool) (read write : ℕ) (same : length a ≡ length b) (h : SameHeader (turn read a) (turn read b)) where
   same-found : foundOf most a read write ≡ foundOf most b read write
   same-found =
       same-judged (turn read a) (turn read b) h most (filledOf (length a) read write) (nextOf (length a) read (wholeOf (headerAt (turn read a))))
@@ -80,21 +80,21 @@ module _ (most : ℕ) (a b : List ℕ) (configured : ℕ) (running : Bool) (read
       ∙ ap (λ (n : ℕ). judged most (filledOf n read write) (headerAt (turn read b)) (nextOf n read (wholeOf (headerAt (turn read b))))) same
 
   -- two rings that differ only in reserved bits and after the header get one answer
-  pub same-taken : (output : ℕ) → takenOf most a configured running read write output ≡ takenOf most b configured running read write output
+  pub same-taken : (output : ℕ) → takenOf most a configured readable read write output ≡ takenOf most b configured readable read write output
   unfolding takenOf
   same-taken output = rw (same-found, same)
 
   -- and if they agree in the packet, where there is one, one output: padding and the bytes outside the packet don't matter
-  pub same-read : (out : List ℕ) → ((size next : ℕ) → takenOf most a configured running read write (length out) ≡ packet size next → (k : ℕ) → k < size → getD (turn read a) (4 + k) 0 ≡ getD (turn read b) (4 + k) 0)
-      → readOf most a configured running read write out ≡ readOf most b configured running read write out
+  pub same-read : (out : List ℕ) → ((size next : ℕ) → takenOf most a configured readable read write (length out) ≡ packet size next → (k : ℕ) → k < size → getD (turn read a) (4 + k) 0 ≡ getD (turn read b) (4 + k) 0)
+      → readOf most a configured readable read write out ≡ readOf most b configured readable read write out
   unfolding packetOf
   same-read out e =
       let s = turn read a in
       let t = turn read b in
-      let agree : (size next : ℕ) → takenOf most a configured running read write (length out) ≡ packet size next → packetOf s ≡ packetOf t =
-      λ (size next : ℕ) (q : takenOf most a configured running read write (length out) ≡ packet size next).
-      let g = good most a configured running read write (length out) size next q in
-      let room = good-short most a configured running read write (length out) size next g in
+      let agree : (size next : ℕ) → takenOf most a configured readable read write (length out) ≡ packet size next → packetOf s ≡ packetOf t =
+      λ (size next : ℕ) (q : takenOf most a configured readable read write (length out) ≡ packet size next).
+      let g = good most a configured readable read write (length out) size next q in
+      let room = good-short most a configured readable read write (length out) size next g in
       let whole = same-whole s t h in
       let pad = same-padding s t h in
       let sizes : sizeOf (headerAt s) ≡ sizeOf (headerAt t) = omega arith in
@@ -102,6 +102,6 @@ module _ (most : ℕ) (a b : List ℕ) (configured : ℕ) (running : Bool) (read
       ∙ same-part s t size (omega (arith, room, turn-length read a)) (turn-length read a ∙ same ∙ sym (turn-length read b)) (e size next q)
       ∙ ap (λ (n : ℕ). take n (drop 4 t)) (g .header .sized ∙ sizes) in
       let says = same-taken (length out) in
-      let output : outputOf (takenOf most a configured running read write (length out)) s out ≡ outputOf (takenOf most b configured running read write (length out)) t out =
-      same-output (takenOf most a configured running read write (length out)) s t out agree ∙ ap (λ (n : Said). outputOf n t out) says in
+      let output : outputOf (takenOf most a configured readable read write (length out)) s out ≡ outputOf (takenOf most b configured readable read write (length out)) t out =
+      same-output (takenOf most a configured readable read write (length out)) s t out agree ∙ ap (λ (n : Said). outputOf n t out) says in
       λ i. left (says i) (output i)

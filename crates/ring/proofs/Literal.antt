@@ -2,14 +2,18 @@
 -- Assumes nothing.
 use mathlib.Core.Path.{_≡_, refl}
 use mathlib.Core.Bool.{true}
-use mathlib.Core.List.{List, [], _∷_, _++_}
+use mathlib.Core.List.{List, [], _∷_, _++_, map}
 use Prim.Native.Nat.{ℕ}
 use lib.ListN.{replicate}
 use Rattle.octets.specs.Bytes.{fronted}
 use Rattle.octets.specs.Words.{wordAt, wordBytes}
+use Rattle.mmbi.specs.declared.interface.Flags.{Flags}
+use Rattle.mmbi.specs.Interface.{flagsOf, normalRuntime, askedByHost, askedByController, sixteen, stateOf}
+use Rattle.mmbi.specs.Interface.{mayRead, mayWrite}
 use Rattle.ring.specs.Numbers.{filledOf, roomOf, nextOf}
 use Rattle.ring.specs.Packet.{packetOf, headerFor, ringBytes}
 use Rattle.ring.specs.Reading as reading
+use Rattle.ring.specs.Runs.{Kept, wrote, writeAll, queued, readAll}
 use Rattle.ring.specs.Turn.{turn, stored}
 use Rattle.ring.specs.Writing as writing
 
@@ -54,3 +58,65 @@ other-alone = refl
 pub padding-alone : reading.takenOf 64 (0 ∷ 0 ∷ 1 ∷ 4 ∷ replicate 124 238) 128 true 0 12 68 ≡ reading.refused 13
 unfolding reading.takenOf reading.judged filledOf nextOf turn wordAt
 padding-alone = refl
+
+-- in each of the sixteen flag states, from 0000 to 1111: read in 1010, 1011 and 1110, written in 1010
+pub read-by-state :
+    map (λ (f : Flags). reading.takenOf 64 written 128 (mayRead (stateOf f)) 120 4 68) sixteen
+    ≡ replicate 10 (reading.refused 11)
+    ++ (reading.packet 5 4
+    ∷ reading.packet 5 4
+    ∷ reading.refused 11
+    ∷ reading.refused 11
+    ∷ reading.packet 5 4
+    ∷ reading.refused 11
+    ∷ [])
+unfolding stateOf reading.takenOf reading.judged filledOf nextOf turn wordAt
+read-by-state = refl
+
+pub written-by-state :
+    map (λ (f : Flags). writing.putOf 64 128 128 (mayWrite (stateOf f)) 120 4 5) sixteen
+    ≡ replicate 10 (writing.refused 11) ++ (writing.written 16 ∷ replicate 5 (writing.refused 11))
+unfolding stateOf writing.putOf filledOf roomOf nextOf
+written-by-state = refl
+
+-- three packets queued in a ring of bytes EE from byte 100 on, the third over the end
+abbrev small : ℕ → List ℕ
+small n = 1 ∷ 9 ∷ 10 ∷ 200 ∷ n ∷ []
+
+abbrev smallImage : ℕ → List ℕ
+smallImage n = 0 ∷ 0 ∷ 11 ∷ 4 ∷ 1 ∷ 9 ∷ 10 ∷ 200 ∷ n ∷ 0 ∷ 0 ∷ 0 ∷ []
+
+abbrev pub three : List (List ℕ)
+three = small 1 ∷ small 2 ∷ small 3 ∷ []
+
+abbrev pub threeKept : Kept
+threeKept =
+    record {
+      ring =
+          1 ∷ 9 ∷ 10 ∷ 200 ∷ 3 ∷ 0 ∷ 0 ∷ 0 ∷ replicate 92 238
+          ++ (smallImage 1 ++ (smallImage 2 ++ (0 ∷ 0 ∷ 11 ∷ 4 ∷ [])));
+      write = 8;
+    }
+
+pub three-queued : queued 64 128 (replicate 128 238) 100 three ≡ threeKept
+unfolding stateOf writeAll wrote writing.putOf filledOf roomOf nextOf turn stored fronted ringBytes headerFor wordBytes
+three-queued = refl
+
+-- read back while the host asks for a reset, and while the controller does; one in normal runtime, one while the host
+-- asks, and none once the reset is acknowledged (1111)
+pub three-read :
+    map (λ (states : List Flags). readAll 64 128 (threeKept .ring) (replicate 68 170) 8 states 100)
+    (replicate 3 askedByHost
+    ∷ replicate 3 askedByController
+    ∷ (normalRuntime ∷ askedByHost ∷ flagsOf true true true true ∷ [])
+    ∷ [])
+    ≡ three ∷ three ∷ (small 1 ∷ small 2 ∷ []) ∷ []
+unfolding stateOf readAll reading.takenOf reading.judged filledOf nextOf turn fronted packetOf wordAt
+three-read = refl
+
+-- a fourth that comes then isn't written
+pub three-stay :
+    map (λ (f : Flags). writeAll 64 128 f 100 threeKept (small 4 ∷ [])) (askedByHost ∷ askedByController ∷ [])
+    ≡ threeKept ∷ threeKept ∷ []
+unfolding stateOf writeAll wrote writing.putOf
+three-stay = refl

@@ -56,13 +56,13 @@ parts s n k =
 held : (s : List ℕ) (n k : ℕ) → 4 + n + k < length s → length (take k (drop (4 + n) s)) ≡ k
 held s n k h = simp (length-take, length-drop) (omega arith)
 
-module _ (most : ℕ) (ring : List ℕ) (configured : ℕ) (running : Bool) (read write output size next : ℕ)
-    (b : Below 256 ring) (e : takenOf most ring configured running read write output ≡ packet size next) where
+module _ (most : ℕ) (ring : List ℕ) (configured : ℕ) (readable : Bool) (read write output size next : ℕ)
+    (b : Below 256 ring) (e : takenOf most ring configured readable read write output ≡ packet size next) where
   abbrev s : List ℕ
   s = turn read ring
 
-  g : Good most ring configured running read write output size next
-  g = good most ring configured running read write output size next e
+  g : Good most ring configured readable read write output size next
+  g = good most ring configured readable read write output size next e
 
   header : Passed most (filledOf configured read write) (headerAt s)
       (nextOf configured read (wholeOf (headerAt s))) size next

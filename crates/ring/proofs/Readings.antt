@@ -83,49 +83,49 @@ pub pointers-holds : (configured read write : ℕ) → Pointer configured read �
 pointers-holds configured read write r w = rw (pointer-holds configured read r, pointer-holds configured write w)
 
 -- which inputs get 1, 2, 11, 12 and EMPTY, and which come to a packet
-module _ (most : ℕ) (ring : List ℕ) (configured : ℕ) (running : Bool) (read write output : ℕ) where
-  pub taken-1 : setUpRight most configured (length ring) ≡ false → takenOf most ring configured running read write output ≡ refused 1
+module _ (most : ℕ) (ring : List ℕ) (configured : ℕ) (readable : Bool) (read write output : ℕ) where
+  pub taken-1 : setUpRight most configured (length ring) ≡ false → takenOf most ring configured readable read write output ≡ refused 1
   unfolding takenOf
   taken-1 h = rw h
 
   module _ (set-up : setUpRight most configured (length ring) ≡ true) where
-    pub taken-2 : output < 4 + most → takenOf most ring configured running read write output ≡ refused 2
+    pub taken-2 : output < 4 + most → takenOf most ring configured readable read write output ≡ refused 2
     unfolding takenOf
     taken-2 h = rw (set-up, lt-ltb output (4 + most) h)
 
     module _ (room : 4 + most ≤ output) where
-      pub taken-11 : running ≡ false → takenOf most ring configured running read write output ≡ refused 11
+      pub taken-11 : readable ≡ false → takenOf most ring configured readable read write output ≡ refused 11
       unfolding takenOf
       taken-11 h = rw (set-up, le-ltb output (4 + most) room, h)
 
-      module _ (runs : running ≡ true) where
-        pub taken-12 : pointersRight configured read write ≡ false → takenOf most ring configured running read write output ≡ refused 12
+      module _ (may : readable ≡ true) where
+        pub taken-12 : pointersRight configured read write ≡ false → takenOf most ring configured readable read write output ≡ refused 12
         unfolding takenOf
-        taken-12 h = rw (set-up, le-ltb output (4 + most) room, runs, h)
+        taken-12 h = rw (set-up, le-ltb output (4 + most) room, may, h)
 
         module _ (pointers : pointersRight configured read write ≡ true) where
-          pub taken-empty : read ≡ write → takenOf most ring configured running read write output ≡ empty
+          pub taken-empty : read ≡ write → takenOf most ring configured readable read write output ≡ empty
           unfolding takenOf
-          taken-empty h = rw (set-up, le-ltb output (4 + most) room, runs, pointers, eq-eqb read write h)
+          taken-empty h = rw (set-up, le-ltb output (4 + most) room, may, pointers, eq-eqb read write h)
 
-          pub taken-found : (read ≡ write → ⊥) → takenOf most ring configured running read write output ≡ foundOf most ring read write
+          pub taken-found : (read ≡ write → ⊥) → takenOf most ring configured readable read write output ≡ foundOf most ring read write
           unfolding takenOf
-          taken-found h = rw (set-up, le-ltb output (4 + most) room, runs, pointers, ne-eqb read write h)
+          taken-found h = rw (set-up, le-ltb output (4 + most) room, may, pointers, ne-eqb read write h)
 
 -- which packets get 13, 14 and 3: "number and the pointer after the packet"
-module _ (most : ℕ) (ring : List ℕ) (configured : ℕ) (running : Bool) (read write output : ℕ) (found : takenOf most ring configured running read write output ≡ foundOf most ring read write) where
-  pub taken-13-whole : filledOf (length ring) read write < wholeOf (headerAt (turn read ring)) → takenOf most ring configured running read write output ≡ refused 13
+module _ (most : ℕ) (ring : List ℕ) (configured : ℕ) (readable : Bool) (read write output : ℕ) (found : takenOf most ring configured readable read write output ≡ foundOf most ring read write) where
+  pub taken-13-whole : filledOf (length ring) read write < wholeOf (headerAt (turn read ring)) → takenOf most ring configured readable read write output ≡ refused 13
   taken-13-whole h = found ∙ judged-13-whole most (filledOf (length ring) read write) (headerAt (turn read ring)) (nextOf (length ring) read (wholeOf (headerAt (turn read ring)))) h
 
   module _ (held : wholeOf (headerAt (turn read ring)) ≤ filledOf (length ring) read write) where
-    pub taken-13-padding : wholeOf (headerAt (turn read ring)) < 4 + paddingField (headerAt (turn read ring)) → takenOf most ring configured running read write output ≡ refused 13
+    pub taken-13-padding : wholeOf (headerAt (turn read ring)) < 4 + paddingField (headerAt (turn read ring)) → takenOf most ring configured readable read write output ≡ refused 13
     taken-13-padding h = found ∙ judged-13-padding most (filledOf (length ring) read write) (headerAt (turn read ring)) (nextOf (length ring) read (wholeOf (headerAt (turn read ring)))) held h
 
     module _ (counted : 4 + paddingField (headerAt (turn read ring)) ≤ wholeOf (headerAt (turn read ring))) where
-      pub taken-14 : (typeField (headerAt (turn read ring)) ≡ mctpType → ⊥) → takenOf most ring configured running read write output ≡ skipped 14 (nextOf (length ring) read (wholeOf (headerAt (turn read ring))))
+      pub taken-14 : (typeField (headerAt (turn read ring)) ≡ mctpType → ⊥) → takenOf most ring configured readable read write output ≡ skipped 14 (nextOf (length ring) read (wholeOf (headerAt (turn read ring))))
       taken-14 h = found ∙ judged-14 most (filledOf (length ring) read write) (headerAt (turn read ring)) (nextOf (length ring) read (wholeOf (headerAt (turn read ring)))) held counted h
 
-      pub taken-3 : typeField (headerAt (turn read ring)) ≡ mctpType → packetSize most (sizeOf (headerAt (turn read ring))) ≡ false → takenOf most ring configured running read write output ≡ skipped 3 (nextOf (length ring) read (wholeOf (headerAt (turn read ring))))
+      pub taken-3 : typeField (headerAt (turn read ring)) ≡ mctpType → packetSize most (sizeOf (headerAt (turn read ring))) ≡ false → takenOf most ring configured readable read write output ≡ skipped 3 (nextOf (length ring) read (wholeOf (headerAt (turn read ring))))
       taken-3 ours h = found ∙ judged-3 most (filledOf (length ring) read write) (headerAt (turn read ring)) (nextOf (length ring) read (wholeOf (headerAt (turn read ring)))) held counted ours h
 
 -- what a header that passes for a packet says
@@ -139,10 +139,10 @@ pub record Passed (most filled header after size next : ℕ) : Type 0 where
   pub on : next ≡ after
 
 -- what a good input is, each fact by its name
-pub record Good (most : ℕ) (ring : List ℕ) (configured : ℕ) (running : Bool) (read write output size next : ℕ) : Type 0 where
+pub record Good (most : ℕ) (ring : List ℕ) (configured : ℕ) (readable : Bool) (read write output size next : ℕ) : Type 0 where
   pub set-up : SetUp most configured (length ring)
   pub room : 4 + most ≤ output
-  pub runs : running ≡ true
+  pub may : readable ≡ true
   pub from : Pointer configured read
   pub to : Pointer configured write
   pub some : read ≡ write → ⊥
@@ -179,14 +179,14 @@ passed most filled header after size next e =
       on = sym on;
     }
 
-module _ (most : ℕ) (ring : List ℕ) (configured : ℕ) (running : Bool) (read write output size next : ℕ) where
+module _ (most : ℕ) (ring : List ℕ) (configured : ℕ) (readable : Bool) (read write output size next : ℕ) where
   -- a reading that gives a packet was of a good input
-  pub good : takenOf most ring configured running read write output ≡ packet size next → Good most ring configured running read write output size next
+  pub good : takenOf most ring configured readable read write output ≡ packet size next → Good most ring configured readable read write output size next
   unfolding takenOf
   good e =
       let a = past (not (setUpRight most configured (length ring))) (refused 1) _ (packet size next) (not-refused 1 size next) e in
       let b = past (ltb output (4 + most)) (refused 2) _ (packet size next) (not-refused 2 size next) (a .1) in
-      let d = past (not running) (refused 11) _ (packet size next) (not-refused 11 size next) (b .1) in
+      let d = past (not readable) (refused 11) _ (packet size next) (not-refused 11 size next) (b .1) in
       let f = past (not (pointersRight configured read write)) (refused 12) _ (packet size next) (not-refused 12 size next) (d .1) in
       let g = past (eqb read write) empty _ (packet size next) (not-empty size next) (f .1) in
       let set-up = set-up-facts most configured (length ring) (not-false (setUpRight most configured (length ring)) (a .0)) in
@@ -194,7 +194,7 @@ module _ (most : ℕ) (ring : List ℕ) (configured : ℕ) (running : Bool) (rea
       record {
         set-up = set-up;
         room = ltb-false output (4 + most) (b .0);
-        runs = not-false running (d .0);
+        may = not-false readable (d .0);
         from = pointers .0;
         to = pointers .1;
         some = eqb-false read write (g .0);
@@ -202,16 +202,16 @@ module _ (most : ℕ) (ring : List ℕ) (configured : ℕ) (running : Bool) (rea
       }
 
   -- and a good input is read
-  pub good-taken : Good most ring configured running read write output size next → takenOf most ring configured running read write output ≡ packet size next
+  pub good-taken : Good most ring configured readable read write output size next → takenOf most ring configured readable read write output ≡ packet size next
   good-taken h =
       let w = headerAt (turn read ring) in
       let p = h .header in
-      taken-found most ring configured running read write output (set-up-holds most configured (length ring) (h .set-up)) (h .room) (h .runs) (pointers-holds configured read write (h .from) (h .to)) (h .some)
+      taken-found most ring configured readable read write output (set-up-holds most configured (length ring) (h .set-up)) (h .room) (h .may) (pointers-holds configured read write (h .from) (h .to)) (h .some)
       ∙ ap (λ (n : ℕ). judged most (filledOf n read write) w (nextOf n read (wholeOf w))) (sym (h .set-up .same))
       ∙ judged-packet most (filledOf configured read write) w (nextOf configured read (wholeOf w)) (p .held) (p .counted) (p .ours) (within-holds 5 (4 + most) (sizeOf w) (omega (arith, p .least, p .sized)) (omega (arith, p .largest, p .sized)))
       ∙ cc (p .sized, p .on)
 
-  module _ (h : Good most ring configured running read write output size next) where
+  module _ (h : Good most ring configured readable read write output size next) where
     -- a good packet and its header are shorter than the ring
     pub good-short : 4 + size < length ring
     good-short =
@@ -246,15 +246,15 @@ other-packet : (size next : ℕ) → packet size next ≡ refused 1 → ⊥
 other-packet size next e = let z : _≡_ {A = ℕ} 0 1 = cc in omega arith
 
 -- a ring of a right length, lent whole, never gets 1
-pub taken-not-1 : (most : ℕ) (ring : List ℕ) (configured : ℕ) (running : Bool) (read write output : ℕ) → setUpRight most configured (length ring) ≡ true → takenOf most ring configured running read write output ≡ refused 1 → ⊥
+pub taken-not-1 : (most : ℕ) (ring : List ℕ) (configured : ℕ) (readable : Bool) (read write output : ℕ) → setUpRight most configured (length ring) ≡ true → takenOf most ring configured readable read write output ≡ refused 1 → ⊥
 unfolding takenOf judged
-taken-not-1 most ring configured running read write output set-up e =
+taken-not-1 most ring configured readable read write output set-up e =
     let w = headerAt (turn read ring) in
     let f = filledOf (length ring) read write in
     let next = nextOf (length ring) read (wholeOf w) in
     let a = rw set-up at e in
     let b = past (ltb output (4 + most)) (refused 2) _ (refused 1) (other-number 2 (λ (z : 2 ≡ 1). omega arith)) a .1 in
-    let d = past (not running) (refused 11) _ (refused 1) (other-number 11 (λ (z : 11 ≡ 1). omega arith)) b .1 in
+    let d = past (not readable) (refused 11) _ (refused 1) (other-number 11 (λ (z : 11 ≡ 1). omega arith)) b .1 in
     let g = past (not (pointersRight configured read write)) (refused 12) _ (refused 1) (other-number 12 (λ (z : 12 ≡ 1). omega arith)) d .1 in
     let h = past (eqb read write) empty _ (refused 1) other-empty g .1 in
     let i = past (ltb f 4) (refused 13) _ (refused 1) (other-number 13 (λ (z : 13 ≡ 1). omega arith)) h .1 in

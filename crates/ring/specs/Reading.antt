@@ -50,12 +50,12 @@ foundOf most ring read write =
     judged most (filledOf (length ring) read write) (headerAt (turn read ring)) (nextOf (length ring) read (wholeOf (headerAt (turn read ring))))
 
 -- "Reading order: 1 (length outside the rule, or not that of the lent ring), 2 (output under 68), 11, 12 (either pointer not a multiple of 4, or
--- not below the length), EMPTY, 13, 14, 3"; 68 is 4 + `most`
+-- not below the length), EMPTY, 13, 14, 3"; 68 is 4 + `most`, and 11 is for a state in which no ring may be read
 unfoldable pub takenOf : ℕ → List ℕ → ℕ → Bool → ℕ → ℕ → ℕ → Said
-takenOf most ring configured running read write output =
+takenOf most ring configured readable read write output =
     pick (not (setUpRight most configured (length ring))) (refused 1)
     (pick (ltb output (4 + most)) (refused 2)
-    (pick (not running) (refused 11)
+    (pick (not readable) (refused 11)
     (pick (not (pointersRight configured read write)) (refused 12)
     (pick (eqb read write) empty
     (foundOf most ring read write)))))
@@ -77,6 +77,6 @@ left said out = record { says = said; output = out }
 
 -- reading, from the ring and the output as they are lent
 abbrev pub readOf : ℕ → List ℕ → ℕ → Bool → ℕ → ℕ → List ℕ → Left
-readOf most ring configured running read write out =
-    left (takenOf most ring configured running read write (length out))
-    (outputOf (takenOf most ring configured running read write (length out)) (turn read ring) out)
+readOf most ring configured readable read write out =
+    left (takenOf most ring configured readable read write (length out))
+    (outputOf (takenOf most ring configured readable read write (length out)) (turn read ring) out)

@@ -1,10 +1,12 @@
 -- Runs of writes and reads on one ring: what the laws "a good arrival" and "first in, first out" speak of.
 -- Assumes nothing.
-use Prim.Native.Nat.{ℕ, zero, suc, _+_}
+use Prim.Native.Nat.{ℕ, _+_}
 use mathlib.Core.Bool.{Bool, true, _&&_}
 use mathlib.Core.List.{List, [], _∷_, _++_}
 use lib.ListN.{length, take, replicate}
 use Rattle.mctp.specs.Packet.{packetSize}
+use Rattle.mmbi.specs.declared.interface.Flags.{Flags}
+use Rattle.mmbi.specs.Interface.{normalRuntime, stateOf, mayRead, mayWrite}
 use Rattle.ring.specs.Packet.{wholeFor, ringBytes}
 use Rattle.ring.specs.Reading as reading
 use Rattle.ring.specs.Turn.{stored}
@@ -39,18 +41,32 @@ abbrev pub pointerAfter : writing.Said → ℕ → ℕ
 pointerAfter (writing.written next) write = next
 pointerAfter (writing.refused number) write = write
 
--- one packet written, whatever the answer
-unfoldable pub wrote : ℕ → ℕ → ℕ → Kept → List ℕ → Kept
-wrote most configured read kept p =
+-- one packet written under these flags, whatever the answer
+unfoldable pub wrote : ℕ → ℕ → Flags → ℕ → Kept → List ℕ → Kept
+wrote most configured flags read kept p =
     record {
-      ring = writing.writeOf most (kept .ring) configured true read (kept .write) p .ring;
-      write = pointerAfter (writing.writeOf most (kept .ring) configured true read (kept .write) p .says) (kept .write);
+      ring = writing.writeOf most (kept .ring) configured (mayWrite (stateOf flags)) read (kept .write) p .ring;
+      write =
+          pointerAfter
+          (writing.writeOf most (kept .ring) configured (mayWrite (stateOf flags)) read (kept .write) p .says)
+          (kept .write);
     }
 
 -- packets written one after the other
-unfoldable pub writeAll : ℕ → ℕ → ℕ → Kept → List (List ℕ) → Kept
-writeAll most configured read kept [] = kept
-writeAll most configured read kept (p ∷ packets) = writeAll most configured read (wrote most configured read kept p) packets
+unfoldable pub writeAll : ℕ → ℕ → Flags → ℕ → Kept → List (List ℕ) → Kept
+writeAll most configured flags read kept [] = kept
+writeAll most configured flags read kept (p ∷ packets) =
+    writeAll most configured flags read (wrote most configured flags read kept p) packets
+
+-- packets queued in normal runtime, from a pointer on at which the ring is empty
+abbrev pub queued : ℕ → ℕ → List ℕ → ℕ → List (List ℕ) → Kept
+queued most configured ring pointer packets =
+    writeAll most configured normalRuntime pointer (record { ring = ring; write = pointer }) packets
+
+-- a ring may be read in each of these flag states
+unfoldable pub allReadable : List Flags → Bool
+allReadable [] = true
+allReadable (flags ∷ states) = mayRead (stateOf flags) && allReadable states
 
 -- a packet taken from the output's front, and then what is read from the pointer after it; nothing where there is no packet
 abbrev pub andThen : reading.Said → List ℕ → (ℕ → List (List ℕ)) → List (List ℕ)
@@ -59,9 +75,10 @@ andThen reading.empty output rest = []
 andThen (reading.skipped number next) output rest = []
 andThen (reading.refused number) output rest = []
 
--- so many packets read one after the other
-unfoldable pub readAll : ℕ → ℕ → List ℕ → List ℕ → ℕ → ℕ → ℕ → List (List ℕ)
-readAll most configured ring out write zero read = []
-readAll most configured ring out write (suc n) read =
-    andThen (reading.readOf most ring configured true read write out .says) (reading.readOf most ring configured true read write out .output)
-    (readAll most configured ring out write n)
+-- packets read one after the other, one read in each of these flag states
+unfoldable pub readAll : ℕ → ℕ → List ℕ → List ℕ → ℕ → List Flags → ℕ → List (List ℕ)
+readAll most configured ring out write [] read = []
+readAll most configured ring out write (flags ∷ states) read =
+    andThen (reading.readOf most ring configured (mayRead (stateOf flags)) read write out .says)
+    (reading.readOf most ring configured (mayRead (stateOf flags)) read write out .output)
+    (readAll most configured ring out write states)

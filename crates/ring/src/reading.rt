@@ -60,12 +60,12 @@ fn find(
     most: usize,
     ring: &[u8],
     configured: usize,
-    running: bool,
+    readable: bool,
     read: usize,
     write: usize,
     output: usize,
 ) -> Taken
-    ensures { λ r. ⌜ saidOf r ≡ takenOf most (now (ring .entry)) configured running read write output ⌝ }
+    ensures { λ r. ⌜ saidOf r ≡ takenOf most (now (ring .entry)) configured readable read write output ⌝ }
 {
     if !number::set_up_right(most, configured, ring.len()) {
         return Taken::Refused(Refusal::Setup);
@@ -74,7 +74,7 @@ fn find(
     if output < least {
         return Taken::Refused(Refusal::Room);
     }
-    if !running {
+    if !readable {
         return Taken::Refused(Refusal::NotRunning);
     }
     if !number::pointers_right(configured, read, write) {
@@ -93,14 +93,14 @@ pub fn read_up_to(
     most: usize,
     ring: &[u8],
     configured: usize,
-    running: bool,
+    readable: bool,
     read: usize,
     write: usize,
     out: &mut [u8],
 ) -> Taken
-    ensures { λ r. ⌜ left (saidOf r) (now (out .exit)) ≡ readOf most (now (ring .entry)) configured running read write (now (out .entry)) ⌝ }
+    ensures { λ r. ⌜ left (saidOf r) (now (out .exit)) ≡ readOf most (now (ring .entry)) configured readable read write (now (out .entry)) ⌝ }
 {
-    let taken = find(most, ring, configured, running, read, write, out.len());
+    let taken = find(most, ring, configured, readable, read, write, out.len());
     match taken {
         Taken::Packet(size, after) => {
             let at = number::next(configured, read, 4);
@@ -113,7 +113,8 @@ pub fn read_up_to(
     }
 }
 
-// The packet at the read pointer, copied to the output's front.
+// The packet at the read pointer, copied to the output's front; 11 unless the interface is in normal runtime, or an end
+// asks for a reset.
 pub fn read(
     ring: &[u8],
     configured: usize,
@@ -124,12 +125,12 @@ pub fn read(
 ) -> Taken
     ensures { λ r. ⌜ left (saidOf r) (now (out .exit)) ≡ readOf 64 (now (ring .entry)) configured (mayRead (stateOf flags)) read write (now (out .entry)) ⌝ }
 {
-    let running = mmbi::may_read(mmbi::state(flags));
+    let readable = mmbi::may_read(mmbi::state(flags));
     read_up_to(
         mctp::LARGEST_BODY,
         ring,
         configured,
-        running,
+        readable,
         read,
         write,
         out,

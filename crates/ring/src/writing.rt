@@ -123,7 +123,7 @@ pub fn write_up_to(
     }
 }
 
-// A packet put into the ring at the write pointer.
+// A packet put into the ring at the write pointer; 11 unless the interface is in normal runtime.
 pub fn write(
     ring: &mut [u8],
     configured: usize,
