@@ -1,7 +1,7 @@
 -- What is known of arrivals on each path, from the carriers' and the message rules' own laws.
 -- Assumes nothing.
 use mathlib.Core.Path.{_≡_, refl, ap, sym, subst, _∙_}
-use mathlib.Core.Bool.{Bool, true, false}
+use mathlib.Core.Bool.{Bool, true}
 use mathlib.Core.List.{List, _++_}
 use Prim.Native.Nat.{ℕ, _+_, _-_, _≤_}
 use native.Mathlib.Omega.{arith}
@@ -29,7 +29,7 @@ use Rattle.pcc.specs.Reading as pcc
 use Rattle.pcc.specs.Writing as regions
 use Rattle.pcc.proofs.Back as pcc-back
 use Rattle.pcc.proofs.Bytes.{every-bytes}
-use Rattle.mmbi.specs.Interface.{flagsOf, stateOf, mayRead}
+use Rattle.mmbi.specs.Interface.{normalRuntime, askedByHost, askedByController, stateOf, mayRead}
 use Rattle.mmbi.specs.declared.interface.Flags.{Flags}
 use Rattle.ring.specs.Numbers.{lengthRight}
 use Rattle.ring.specs.Turn.{turn, stored}
@@ -91,8 +91,8 @@ module _ (most : ℕ) where
       → taking.readOf most bytes configured true read write out ≡ taking.left (taking.packet (length p) next) (fronted out p)
       → ringCarries most bytes configured flags read write out ≡ packet p (Next next)
   unfolding fronted
-  ring-found bytes configured flags read write p next out runs e =
-      let told = sym (ap (λ (b : Bool). taking.readOf most bytes configured b read write out) runs ∙ e) in
+  ring-found bytes configured flags read write p next out may e =
+      let told = sym (ap (λ (b : Bool). taking.readOf most bytes configured b read write out) may ∙ e) in
       let answer = case.Packet (length p) next in
       let front = ring-front most bytes configured flags read write out (fronted out p) answer told (length p) next refl in
       ring-carries most bytes configured flags read write out (fronted out p) answer told answer refl
@@ -113,8 +113,9 @@ module _ (most : ℕ) where
   pub ring-back : (bytes : List ℕ) (configured : ℕ) (running : Bool) (read write : ℕ) (p : List ℕ) (next : ℕ) (flags : Flags) (out : List ℕ)
       → putting.writeOf most bytes configured running read write p .says ≡ putting.written next → mayRead (stateOf flags) ≡ true → 4 + most ≤ length out
       → ringCarries most (putting.writeOf most bytes configured running read write p .ring) configured flags write next out ≡ packet p (Next next)
-  ring-back bytes configured running read write p next flags out e runs room =
-      ring-found (putting.writeOf most bytes configured running read write p .ring) configured flags write next p next out runs
+  ring-back bytes configured running read write p next flags out e may room =
+      ring-found (putting.writeOf most bytes configured running read write p .ring) configured flags write next p next
+      out may
       (ring-round.round-trip most bytes configured running read write p next out e room)
 
 module _ (p : List ℕ) where
@@ -156,14 +157,22 @@ module _ (p : List ℕ) where
       → lengthRight configured ≡ true → mayRead (stateOf flags) ≡ true → 68 ≤ length out
       → Below 256 (arrivalRing configured p)
       × (ringCarries 64 (arrivalRing configured p) configured flags 0 (wholeFor (length p)) out ≡ packet p (Next (wholeFor (length p))))
-  every-ring configured flags out b sized right runs room = (
+  every-ring configured flags out b sized right may room = (
     arrival-bytes configured b,
-    ring-found 64 (arrivalRing configured p) configured flags 0 (wholeFor (length p)) p (wholeFor (length p)) out runs (ring-round.arrival-base configured p out right sized room),
+    ring-found 64 (arrivalRing configured p) configured flags 0 (wholeFor (length p)) p (wholeFor (length p)) out may (ring-round.arrival-base configured p out right sized room),
   )
 
+  -- found in a ring of 128 bytes under these flags
+  abbrev Found : Flags → Type 0
+  Found flags =
+      ringCarries 64 (arrivalRing 128 p) 128 flags 0 (wholeFor (length p)) (replicate 68 0)
+      ≡ packet p (Next (wholeFor (length p)))
+
+  -- in each of the three states
   pub every-ring-base : Below 256 p → packetSize 64 (length p) ≡ true
-      → Below 256 (arrivalRing 128 p)
-      × (ringCarries 64 (arrivalRing 128 p) 128 (flagsOf true false true false) 0 (wholeFor (length p))
-      (replicate 68 0) ≡ packet p (Next (wholeFor (length p))))
+      → Below 256 (arrivalRing 128 p) × Found normalRuntime × Found askedByHost × Found askedByController
   unfolding stateOf
-  every-ring-base b sized = every-ring 128 (flagsOf true false true false) (replicate 68 0) b sized refl refl (lit≤ tt)
+  every-ring-base b sized =
+      let found : (flags : Flags) → mayRead (stateOf flags) ≡ true → Found flags =
+      λ flags may. every-ring 128 flags (replicate 68 0) b sized refl may (lit≤ tt) .1 in
+      (arrival-bytes 128 b, found normalRuntime refl, found askedByHost refl, found askedByController refl)

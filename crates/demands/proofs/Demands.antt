@@ -1,7 +1,7 @@
 -- The three demands of the racks, sentence by sentence, each a theorem over the definitions that the public contracts cite. 64 is the base's largest body.
 -- Assumes nothing.
-use mathlib.Core.Path.{_≡_, ap}
-use mathlib.Core.Bool.{Bool, true, false}
+use mathlib.Core.Path.{_≡_, refl, ap}
+use mathlib.Core.Bool.{Bool, true}
 use mathlib.Core.List.{List, [], _∷_, _++_}
 use Prim.Native.Nat.{ℕ, _+_, _≤_, _<_}
 use lib.ListN.{length, take, replicate}
@@ -28,15 +28,17 @@ use Rattle.window.specs.declared.word.Pointer.{Pointer}
 use Rattle.window.specs.Window.{partOf, storeRefusal, stored, storedPointer, RingChanged}
 use Rattle.window.proofs.Stores.{stored-refused, pointer-refused}
 use Rattle.mmbi.specs.declared.word.Word.{Word}
-use Rattle.mmbi.specs.Interface.{flagsOf, stateOf, mayRead}
+use Rattle.mmbi.specs.Interface.{normalRuntime, askedByHost, askedByController, stateOf, mayRead, mayWrite}
 use Rattle.mmbi.specs.declared.interface.Flags.{Flags}
-use Rattle.ring.specs.Numbers.{lengthRight, nextOf}
+use Rattle.mmbi.specs.Pointers.{pointerRight}
+use Rattle.ring.specs.Numbers.{lengthRight, setUpRight, nextOf}
 use Rattle.ring.specs.Packet.{packetOf, wholeFor, ringBytes, RingLayout}
 use Rattle.ring.specs.Turn as turning
 use Rattle.ring.specs.Turn.{turn}
-use Rattle.ring.specs.Runs.{arrivalRing}
+use Rattle.ring.specs.Runs.{arrivalRing, allSized, spaceFor, queued, allReadable, readAll}
 use Rattle.ring.specs.Reading as taking
 use Rattle.ring.specs.Writing as putting
+use Rattle.ring.proofs.Fifo.{fifo, not-queued}
 use Rattle.ring.proofs.Made.{ring-layout}
 use Rattle.ring.proofs.Readings.{taken-not-1}
 use Rattle.ring.proofs.Writings.{put-not-1}
@@ -103,12 +105,12 @@ ring-output = outputs.ring-output 64
 
 -- a ring cut out of a window by a configuration that was read from it never gets 1, in reading and in writing
 pub cut-ring-is-never-1 : (window : List ℕ) (c : Configuration) (part : Part) → isRing part ≡ true → outcomeOf window ≡ found c
-    → (running : Bool) (read write n : ℕ)
-    → (taking.takenOf 64 (partOf window c part) (partPlace c part .length) running read write n ≡ taking.refused 1 → ⊥)
+    → (readable running : Bool) (read write n : ℕ)
+    → (taking.takenOf 64 (partOf window c part) (partPlace c part .length) readable read write n ≡ taking.refused 1 → ⊥)
     × (putting.putOf 64 (length (partOf window c part)) (partPlace c part .length) running read write n ≡ putting.refused 1 → ⊥)
-cut-ring-is-never-1 window c part is e running read write n =
+cut-ring-is-never-1 window c part is e readable running read write n =
     let right = cut-ring-right window c part is e in (
-      taken-not-1 64 (partOf window c part) (partPlace c part .length) running read write n right,
+      taken-not-1 64 (partOf window c part) (partPlace c part .length) readable read write n right,
       put-not-1 64 (length (partOf window c part)) (partPlace c part .length) running read write n right,
     )
 
@@ -170,9 +172,9 @@ written-region-is-the-layout region id notify p = written-whole region p id noti
 
 -- a packet taken out of a ring stands there from the read pointer on as Table 6 has it, with some reserved bits and some
 -- padding of the right length; size and pointer are its own; and a written one has zeros there
-pub good-ring-packet-is-the-layout : (ring : List ℕ) (configured : ℕ) (running : Bool)
+pub good-ring-packet-is-the-layout : (ring : List ℕ) (configured : ℕ) (readable : Bool)
     (read write output size next : ℕ) → Below 256 ring
-    → taking.takenOf 64 ring configured running read write output ≡ taking.packet size next
+    → taking.takenOf 64 ring configured readable read write output ≡ taking.packet size next
     → RingLayout (turn read ring) (packetOf (turn read ring)) × (length (packetOf (turn read ring)) ≡ size)
     × (next ≡ nextOf configured read (wholeFor size))
 good-ring-packet-is-the-layout = ring-layout 64
@@ -213,6 +215,33 @@ pub ring-reads-back : (ring : List ℕ) (configured : ℕ) (running : Bool) (rea
     → carries 64 (byRing (putting.writeOf 64 ring configured running read write p .ring) configured flags write next out) ≡ packet p (Next next)
 ring-reads-back = good.ring-back 64
 
+-- "Don't drop what is already in the ring. .. Reading is now allowed in normal runtime and in both reset-asked states"
+-- (document 02, #104): packets queued in normal runtime, as many as fit, are read back the same and in order, each in
+-- normal runtime (1010), or while the host (1011) or the controller (1110) asks for a reset
+pub what-is-queued-is-read-back : (ring : List ℕ) (configured pointer : ℕ) (packets : List (List ℕ))
+    (states : List Flags) (out : List ℕ)
+    → setUpRight 64 configured (length ring) ≡ true → pointerRight configured pointer ≡ true
+    → allSized 64 packets ≡ true → spaceFor packets + 4 ≤ configured
+    → allReadable states ≡ true → length states ≡ length packets → 68 ≤ length out
+    → readAll 64 configured (queued 64 configured ring pointer packets .ring) out
+    (queued 64 configured ring pointer packets .write) states pointer ≡ packets
+what-is-queued-is-read-back ring configured pointer packets states out right at sized fits may many long =
+    fifo 64 configured pointer out long states may ring packets right at sized fits many
+
+-- "writing stays in normal runtime only": one more packet, while an end asks for a reset, is refused with 11, and the ring
+-- stays as it is
+pub nothing-is-queued-while-a-reset-is-asked : (ring : List ℕ) (configured read write : ℕ) (p : List ℕ)
+    → setUpRight 64 configured (length ring) ≡ true → packetSize 64 (length p) ≡ true
+    → (putting.writeOf 64 ring configured (mayWrite (stateOf askedByHost)) read write p
+    ≡ putting.left (putting.refused 11) ring)
+    × (putting.writeOf 64 ring configured (mayWrite (stateOf askedByController)) read write p
+    ≡ putting.left (putting.refused 11) ring)
+unfolding stateOf
+nothing-is-queued-while-a-reset-is-asked ring configured read write p right sized = (
+  not-queued 64 ring configured askedByHost read write p right sized refl,
+  not-queued 64 ring configured askedByController read write p right sized refl,
+)
+
 -- DEMAND 3: THE PATH DOESN'T MATTER
 --
 -- "Present a fresh receiver with any finite list of arrivals, good, bad or empty, on the three paths mixed at will. What the message rules answer to the
@@ -235,19 +264,23 @@ pub every-packet-by-pcc : (p : List ℕ) (id : ℕ) (notify : Bool) → Below 25
     → Below 256 (regionFor id notify p) × (carries 64 (byPcc (regionFor id notify p) id) ≡ packet p (Notify notify))
 every-packet-by-pcc p = good.every-region p
 
--- and a ring of bytes of any right length
+-- and a ring of bytes of any right length. "Demand 3's good arrivals now include ring arrivals in these two states"
+-- (document 02, #104): in normal runtime (1010), and while the host (1011) or the controller (1110) asks for a reset
 pub every-packet-by-ring : (p : List ℕ) (configured : ℕ) (flags : Flags) (out : List ℕ) → Below 256 p → packetSize 64 (length p) ≡ true
     → lengthRight configured ≡ true → mayRead (stateOf flags) ≡ true → 68 ≤ length out
     → Below 256 (arrivalRing configured p)
     × (carries 64 (byRing (arrivalRing configured p) configured flags 0 (wholeFor (length p)) out) ≡ packet p (Next (wholeFor (length p))))
 every-packet-by-ring p = good.every-ring p
 
--- of which one is for every packet: 128 bytes, B_UP and H_UP set (1010), an output of 68
+-- of which three are for every packet: 128 bytes and an output of 68, in each of the three states
+abbrev pub smallRing : Flags → List ℕ → Arrival
+smallRing flags p = byRing (arrivalRing 128 p) 128 flags 0 (wholeFor (length p)) (replicate 68 0)
+
 pub every-packet-by-a-ring : (p : List ℕ) → Below 256 p → packetSize 64 (length p) ≡ true
     → Below 256 (arrivalRing 128 p)
-    × (carries 64
-    (byRing (arrivalRing 128 p) 128 (flagsOf true false true false) 0 (wholeFor (length p)) (replicate 68 0))
-    ≡ packet p (Next (wholeFor (length p))))
+    × (carries 64 (smallRing normalRuntime p) ≡ packet p (Next (wholeFor (length p))))
+    × (carries 64 (smallRing askedByHost p) ≡ packet p (Next (wholeFor (length p))))
+    × (carries 64 (smallRing askedByController p) ≡ packet p (Next (wholeFor (length p))))
 every-packet-by-a-ring = good.every-ring-base
 
 -- "A good SMBus frame with one or more bits changed, all within eight neighbouring bits in wire order, is refused.": at every own address

@@ -24,7 +24,8 @@ use Rattle.pcc.specs.Region.{regionFor, regionOf, regionWith}
 use Rattle.pcc.specs.Reading as pcc
 use Rattle.pcc.specs.Writing as regions
 use Rattle.pcc.proofs.Back.{every-number}
-use Rattle.mmbi.specs.Interface.{flagsOf, stateOf, mayRead}
+use Rattle.mmbi.specs.declared.interface.Flags.{Flags}
+use Rattle.mmbi.specs.Interface.{normalRuntime, askedByHost, askedByController, stateOf, mayRead, mayWrite}
 use Rattle.descriptor.specs.declared.configuration.Part.the-variants.{B2h}
 use Rattle.descriptor.specs.Configuration.{partPlace, inside, clear, ringRight, allowed}
 use Rattle.descriptor.proofs.Literal.{windowImage, imageConfiguration, image-found}
@@ -32,7 +33,7 @@ use Rattle.window.specs.declared.word.Pointer.the-variants.{H2bWrite}
 use Rattle.window.specs.Window as window
 use Rattle.ring.specs.Numbers.{nextOf}
 use Rattle.ring.specs.Packet.{packetOf, wholeFor, ringBytes, RingLayout}
-use Rattle.ring.specs.Runs.{arrivalRing}
+use Rattle.ring.specs.Runs.{arrivalRing, allSized, spaceFor, queued, allReadable, readAll}
 use Rattle.ring.specs.Turn.{turn, stored}
 use Rattle.ring.specs.Reading as taking
 use Rattle.ring.specs.Writing as putting
@@ -109,9 +110,9 @@ pub not-freed : freedOf 64 card 4 .receiver ≡ card
 not-freed = demands.not-freed card 4 (λ e. omega (arith, steps .no-slot))
 
 -- the window of document 003's tables, worked out by hand
-pub cut-ring-is-never-1 : (running : Bool) (read write n : ℕ)
+pub cut-ring-is-never-1 : (readable running : Bool) (read write n : ℕ)
     → (taking.takenOf 64 (window.partOf windowImage imageConfiguration B2h)
-    (partPlace imageConfiguration B2h .length) running read write n ≡ taking.refused 1 → ⊥)
+    (partPlace imageConfiguration B2h .length) readable read write n ≡ taking.refused 1 → ⊥)
     × (putting.putOf 64 (length (window.partOf windowImage imageConfiguration B2h))
     (partPlace imageConfiguration B2h .length) running read write n ≡ putting.refused 1 → ⊥)
 cut-ring-is-never-1 = demands.cut-ring-is-never-1 windowImage imageConfiguration B2h refl image-found
@@ -209,16 +210,16 @@ pub written-ring-packet-is-the-layout : putting.writeOf 64 round 128 true 120 12
 written-ring-packet-is-the-layout =
     demands.written-ring-packet-is-the-layout round 128 true 120 120 image.packet 4 written
 
-running : mayRead (stateOf (flagsOf true false true false)) ≡ true
+readable : mayRead (stateOf askedByController) ≡ true
 unfolding stateOf
-running = refl
+readable = refl
 
 pub ring-reads-back : carries 64
-    (byRing (putting.writeOf 64 round 128 true 120 120 image.packet .ring) 128 (flagsOf true false true false) 120 4
+    (byRing (putting.writeOf 64 round 128 true 120 120 image.packet .ring) 128 askedByController 120 4
     (replicate 68 0)) ≡ carrier.packet image.packet (Next 4)
 ring-reads-back =
-    demands.ring-reads-back round 128 true 120 120 image.packet 4 (flagsOf true false true false)
-    (replicate 68 0) written running (lit≤ tt)
+    demands.ring-reads-back round 128 true 120 120 image.packet 4 askedByController
+    (replicate 68 0) written readable (lit≤ tt)
 
 -- the ring so written
 pub good-ring-packet-is-the-layout :
@@ -227,6 +228,42 @@ pub good-ring-packet-is-the-layout :
 good-ring-packet-is-the-layout =
     demands.good-ring-packet-is-the-layout image.written 128 true 120 4 68 5 4 (all-bytes image.written tt)
     (ap (λ (l : taking.Left). l .says) image.image-read)
+
+-- three packets in the ring of bytes EE, over its end
+three-fit : (allSized 64 image.three ≡ true) × (spaceFor image.three ≡ 36)
+unfolding allSized spaceFor
+three-fit = (refl, refl)
+
+-- the first is read in normal runtime, and then the controller asks; the host asks before any is read
+abbrev controllerAsks : List Flags
+controllerAsks = normalRuntime ∷ askedByController ∷ askedByController ∷ []
+
+abbrev hostAsks : List Flags
+hostAsks = replicate 3 askedByHost
+
+all-readable : (allReadable controllerAsks ≡ true) × (allReadable hostAsks ≡ true)
+unfolding allReadable stateOf
+all-readable = (refl, refl)
+
+abbrev ReadBack : List Flags → Type 0
+ReadBack states =
+    readAll 64 128 (queued 64 128 round 100 image.three .ring) (replicate 68 0)
+    (queued 64 128 round 100 image.three .write) states 100 ≡ image.three
+
+pub what-is-queued-is-read-back : ReadBack controllerAsks × ReadBack hostAsks
+what-is-queued-is-read-back =
+    let read : (states : List Flags) → allReadable states ≡ true → length states ≡ 3 → ReadBack states =
+    λ states may many. demands.what-is-queued-is-read-back round 128 100 image.three states (replicate 68 0) refl refl
+    (three-fit .0) (omega (arith, three-fit .1)) may many (lit≤ tt) in
+    (read controllerAsks (all-readable .0) refl, read hostAsks (all-readable .1) refl)
+
+pub nothing-is-queued-while-a-reset-is-asked :
+    (putting.writeOf 64 (image.threeKept .ring) 128 (mayWrite (stateOf askedByHost)) 100 8 literalPacket
+    ≡ putting.left (putting.refused 11) (image.threeKept .ring))
+    × (putting.writeOf 64 (image.threeKept .ring) 128 (mayWrite (stateOf askedByController)) 100 8 literalPacket
+    ≡ putting.left (putting.refused 11) (image.threeKept .ring))
+nothing-is-queued-while-a-reset-is-asked =
+    demands.nothing-is-queued-while-a-reset-is-asked (image.threeKept .ring) 128 100 8 literalPacket refl refl
 
 -- document 01's message of 130, with something of each kind between its packets
 pub messages-are-put-together : Accepted card (packetWith 0xBD 64 1) middles (packetWith 0x5D 2 3)
@@ -256,16 +293,16 @@ every-packet-by-pcc = demands.every-packet-by-pcc literalPacket 3 true small ref
 
 pub every-packet-by-ring : Below 256 (arrivalRing 65536 literalPacket)
     × (carries 64
-    (byRing (arrivalRing 65536 literalPacket) 65536 (flagsOf true false true false) 0 (wholeFor 5)
-    (replicate 100 0)) ≡ carrier.packet literalPacket (Next (wholeFor 5)))
+    (byRing (arrivalRing 65536 literalPacket) 65536 askedByController 0 (wholeFor 5) (replicate 100 0))
+    ≡ carrier.packet literalPacket (Next (wholeFor 5)))
 every-packet-by-ring =
-    demands.every-packet-by-ring literalPacket 65536 (flagsOf true false true false)
-    (replicate 100 0) small refl refl running (lit≤ tt)
+    demands.every-packet-by-ring literalPacket 65536 askedByController
+    (replicate 100 0) small refl refl readable (lit≤ tt)
 
 pub every-packet-by-a-ring : Below 256 (arrivalRing 128 literalPacket)
-    × (carries 64
-    (byRing (arrivalRing 128 literalPacket) 128 (flagsOf true false true false) 0 (wholeFor 5) (replicate 68 0))
-    ≡ carrier.packet literalPacket (Next (wholeFor 5)))
+    × (carries 64 (demands.smallRing normalRuntime literalPacket) ≡ carrier.packet literalPacket (Next 12))
+    × (carries 64 (demands.smallRing askedByHost literalPacket) ≡ carrier.packet literalPacket (Next 12))
+    × (carries 64 (demands.smallRing askedByController literalPacket) ≡ carrier.packet literalPacket (Next 12))
 every-packet-by-a-ring = demands.every-packet-by-a-ring literalPacket small refl
 
 pub changed-frame-is-refused : (other : ℕ) → smbus.refusalOf 64 acrossBorder other ≡ 0 → ⊥

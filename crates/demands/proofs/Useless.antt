@@ -13,7 +13,7 @@ use Rattle.pec.proofs.Tests.{all-bytes}
 use Rattle.smbus.proofs.Literal.{literalFrame, literalPacket}
 use Rattle.pcc.specs.Region.{regionFor}
 use Rattle.mmbi.specs.declared.interface.Flags.{Flags}
-use Rattle.mmbi.specs.Interface.{flagsOf}
+use Rattle.mmbi.specs.Interface.{stateOf, mayRead}
 use Rattle.ring.specs.Packet.{wholeFor}
 use Rattle.ring.specs.Runs.{arrivalRing}
 use Rattle.slots.specs.declared.state.Receiver.{Receiver}
@@ -27,7 +27,7 @@ use Rattle.transcript.specs.Frame.{start, oneMore, withPacket, frameOf}
 use Rattle.transcript.specs.Transcript as transcript
 use Rattle.demands.specs.Presenting.{arrival}
 use Rattle.demands.specs.Numbers.{card, empty, packetWith}
-use Rattle.demands.proofs.Arrivals.{every-region, every-ring-base}
+use Rattle.demands.proofs.Arrivals.{every-region, every-ring}
 use Rattle.demands.proofs.Checked.{literal-carried}
 use Rattle.demands.proofs.Steps.{gathering, steps}
 
@@ -64,13 +64,16 @@ module _ (build : Receiver → List ℕ → Arrival → Left) (meets : (r : Rece
       (every-region literalPacket 3 true (all-bytes literalPacket tt) refl (lit≤ tt) .1)
       (all (regionFor 3 true literalPacket) 3)
 
-  pub refuses-every-ring : ((ring : List ℕ) (configured : ℕ) (flags : Flags) (read write : ℕ) (out : List ℕ) → Refuses (byRing ring configured flags read write out)) → ⊥
-  refuses-every-ring all =
+  -- in any one of the three states, so that a ring that is closed too early is shut out as well
+  pub refuses-every-ring : (flags : Flags) → mayRead (stateOf flags) ≡ true
+      → ((ring : List ℕ) (configured read write : ℕ) (out : List ℕ)
+      → Refuses (byRing ring configured flags read write out)) → ⊥
+  refuses-every-ring flags may all =
       let ring = arrivalRing 128 literalPacket in
-      let flags = flagsOf true false true false in
       let out = replicate {A = ℕ} 68 0 in
       refuser (byRing ring 128 flags 0 (wholeFor 5) out) literalPacket _
-      (every-ring-base literalPacket (all-bytes literalPacket tt) refl .1) (all ring 128 flags 0 (wholeFor 5) out)
+      (every-ring literalPacket 128 flags out (all-bytes literalPacket tt) refl refl may (lit≤ tt) .1)
+      (all ring 128 0 (wholeFor 5) out)
 
 -- A build of the call that gives a packet to the message rules.
 module _ (build : Receiver → List ℕ → List ℕ → rules.Left) (meets : (r : Receiver) (m p : List ℕ) → build r m p ≡ rules.stepOf 64 r m p) where

@@ -1,15 +1,16 @@
 -- What the carriers find in literal arrivals: the packet with what they know beside it, or why there is none.
 -- Assumes nothing.
 use mathlib.Core.Path.{_≡_, refl}
-use mathlib.Core.Bool.{true, false}
-use mathlib.Core.List.{List, [], _∷_}
+use mathlib.Core.Bool.{true}
+use mathlib.Core.List.{List, [], _∷_, _++_, map}
 use Prim.Native.Nat.{ℕ}
 use lib.ListN.{replicate}
 use Rattle.octets.specs.Words.{wordAt}
 use Rattle.smbus.proofs.Literal as frame
 use Rattle.pcc.specs.Literal.{literalPacket, literalRegion}
 use Rattle.pcc.proofs.Literal as region
-use Rattle.mmbi.specs.Interface.{flagsOf, stateOf}
+use Rattle.mmbi.specs.declared.interface.Flags.{Flags}
+use Rattle.mmbi.specs.Interface.{normalRuntime, sixteen, stateOf}
 use Rattle.ring.specs.Numbers.{filledOf, nextOf}
 use Rattle.ring.specs.Turn.{turn}
 use Rattle.ring.specs.Packet as bytes
@@ -31,7 +32,7 @@ by-pcc = rw (region.literal-number, region.literal-packet, region.literal-notify
 
 -- a ring of 128 bytes in normal runtime, read from and up to these pointers
 abbrev from : List ℕ → ℕ → ℕ → Carried
-from s read write = carries 64 (byRing s 128 (flagsOf true false true false) read write (replicate 68 0))
+from s read write = carries 64 (byRing s 128 normalRuntime read write (replicate 68 0))
 
 -- ring's packet over the end; nothing; another kind; a header alone; padding that the length doesn't hold
 pub by-ring : from ring.written 120 4
@@ -43,3 +44,17 @@ pub by-ring : from ring.written 120 4
     ≡ packet ring.packet (Next 4) ∷ none empty ∷ none (skipped 14 4) ∷ none (skipped 3 4) ∷ none (refused 13) ∷ []
 unfolding ringCarries stateOf reading.takenOf reading.judged filledOf nextOf turn bytes.packetOf wordAt
 by-ring = refl
+
+-- ring's packet in each of the sixteen flag states, from 0000 to 1111: good in 1010, 1011 and 1110
+pub by-state :
+    map (λ (f : Flags). carries 64 (byRing ring.written 128 f 120 4 (replicate 68 0))) sixteen
+    ≡ replicate 10 (none (refused 11))
+    ++ (packet ring.packet (Next 4)
+    ∷ packet ring.packet (Next 4)
+    ∷ none (refused 11)
+    ∷ none (refused 11)
+    ∷ packet ring.packet (Next 4)
+    ∷ none (refused 11)
+    ∷ [])
+unfolding ringCarries stateOf reading.takenOf reading.judged filledOf nextOf turn bytes.packetOf wordAt
+by-state = refl
