@@ -31,14 +31,14 @@ use Rattle.mmbi.specs.declared.word.Word.{Word}
 use Rattle.mmbi.specs.Interface.{normalRuntime, askedByHost, askedByController, stateOf, mayRead, mayWrite}
 use Rattle.mmbi.specs.declared.interface.Flags.{Flags}
 use Rattle.mmbi.specs.Pointers.{pointerRight}
-use Rattle.ring.specs.Numbers.{lengthRight, setUpRight, nextOf}
+use Rattle.ring.specs.Numbers.{lengthRight, setUpRight, pointersRight, filledOf, nextOf}
 use Rattle.ring.specs.Packet.{packetOf, wholeFor, ringBytes, RingLayout}
 use Rattle.ring.specs.Turn as turning
 use Rattle.ring.specs.Turn.{turn}
-use Rattle.ring.specs.Runs.{arrivalRing, allSized, spaceFor, queued, allReadable, readAll}
+use Rattle.ring.specs.Runs.{arrivalRing, allSized, spaceFor, allBytes, queued, allReadable, readAll}
 use Rattle.ring.specs.Reading as taking
 use Rattle.ring.specs.Writing as putting
-use Rattle.ring.proofs.Fifo.{fifo, not-queued}
+use Rattle.ring.proofs.Fifo.{fifo, filled-back, not-queued}
 use Rattle.ring.proofs.Made.{ring-layout}
 use Rattle.ring.proofs.Readings.{taken-not-1}
 use Rattle.ring.proofs.Writings.{put-not-1}
@@ -226,7 +226,17 @@ pub what-is-queued-is-read-back : (ring : List ℕ) (configured pointer : ℕ) (
     → readAll 64 configured (queued 64 configured ring pointer packets .ring) out
     (queued 64 configured ring pointer packets .write) states pointer ≡ packets
 what-is-queued-is-read-back ring configured pointer packets states out right at sized fits may many long =
-    fifo 64 configured pointer out long states may ring packets right at sized fits many
+    fifo 64 configured pointer packets states may out long ring right at sized fits many
+
+-- so are those that are still there, whatever was written and read before: the packets whose bytes are what is filled
+pub what-is-still-there-is-read-back : (ring : List ℕ) (configured read write : ℕ) (packets : List (List ℕ))
+    (states : List Flags) (out : List ℕ)
+    → setUpRight 64 configured (length ring) ≡ true → pointersRight configured read write ≡ true
+    → allSized 64 packets ≡ true → take (filledOf configured read write) (turn read ring) ≡ allBytes packets
+    → allReadable states ≡ true → length states ≡ length packets → 68 ≤ length out
+    → readAll 64 configured ring out write states read ≡ packets
+what-is-still-there-is-read-back ring configured read write packets states out right at sized bytes may many long =
+    filled-back 64 configured read packets states may out long ring write right at sized bytes many
 
 -- "writing stays in normal runtime only": one more packet, while an end asks for a reset, is refused with 11, and the ring
 -- stays as it is

@@ -6,9 +6,9 @@ use mathlib.Core.List.{List, [], _∷_, _++_}
 use Prim.Native.Nat.{ℕ, _+_}
 use native.Mathlib.Omega.{arith}
 use lib.Dec.{lit≤}
-use lib.ListN.{length, take, replicate}
+use lib.ListN.{length, take, drop, replicate}
 use Rattle.octets.specs.Bytes.{Below, fronted}
-use Rattle.octets.specs.Words.{lowFirst, wordAt}
+use Rattle.octets.specs.Words.{lowFirst, wordAt, wordBytes}
 use Rattle.octets.proofs.Below.{below-zeros}
 use Rattle.mctp.specs.Key.{keyOf}
 use Rattle.pec.proofs.Tests.{all-bytes}
@@ -31,9 +31,9 @@ use Rattle.descriptor.specs.Configuration.{partPlace, inside, clear, ringRight,
 use Rattle.descriptor.proofs.Literal.{windowImage, imageConfiguration, image-found}
 use Rattle.window.specs.declared.word.Pointer.the-variants.{H2bWrite}
 use Rattle.window.specs.Window as window
-use Rattle.ring.specs.Numbers.{nextOf}
-use Rattle.ring.specs.Packet.{packetOf, wholeFor, ringBytes, RingLayout}
-use Rattle.ring.specs.Runs.{arrivalRing, allSized, spaceFor, queued, allReadable, readAll}
+use Rattle.ring.specs.Numbers.{filledOf, nextOf}
+use Rattle.ring.specs.Packet.{packetOf, wholeFor, headerFor, ringBytes, RingLayout}
+use Rattle.ring.specs.Runs.{arrivalRing, allSized, spaceFor, allBytes, queued, allReadable, readAll}
 use Rattle.ring.specs.Turn.{turn, stored}
 use Rattle.ring.specs.Reading as taking
 use Rattle.ring.specs.Writing as putting
@@ -256,6 +256,21 @@ what-is-queued-is-read-back =
     λ states may many. demands.what-is-queued-is-read-back round 128 100 image.three states (replicate 68 0) refl refl
     (three-fit .0) (omega (arith, three-fit .1)) may many (lit≤ tt) in
     (read controllerAsks (all-readable .0) refl, read hostAsks (all-readable .1) refl)
+
+-- the ring with the three in it, of which the first has been read: the other two are still there
+two-left : take (filledOf 128 112 8) (turn 112 (image.threeKept .ring)) ≡ allBytes (drop 1 image.three)
+unfolding filledOf turn allBytes ringBytes headerFor wordBytes
+two-left = refl
+
+two-right : (allSized 64 (drop 1 image.three) ≡ true) × (allReadable (replicate 2 askedByController) ≡ true)
+unfolding allSized allReadable stateOf
+two-right = (refl, refl)
+
+pub what-is-still-there-is-read-back : readAll 64 128 (image.threeKept .ring) (replicate 68 0) 8
+    (replicate 2 askedByController) 112 ≡ drop 1 image.three
+what-is-still-there-is-read-back =
+    demands.what-is-still-there-is-read-back (image.threeKept .ring) 128 112 8 (drop 1 image.three)
+    (replicate 2 askedByController) (replicate 68 0) refl refl (two-right .0) two-left (two-right .1) refl (lit≤ tt)
 
 pub nothing-is-queued-while-a-reset-is-asked :
     (putting.writeOf 64 (image.threeKept .ring) 128 (mayWrite (stateOf askedByHost)) 100 8 literalPacket

@@ -1,5 +1,5 @@
--- First in, first out: any list of packets that fits, written one after the other, is read back in order, after those
--- that the ring held, in whichever states a ring may be read.
+-- First in, first out: any list of packets that fits, written one after the other, is read back in order, and so are those
+-- that stand in a ring already, in whichever states a ring may be read.
 -- Assumes nothing.
 use mathlib.Core.Path.{_≡_, refl, ap, sym, subst, _∙_}
 use mathlib.Core.Bool.{true, false}
@@ -15,7 +15,7 @@ use Rattle.mmbi.specs.declared.interface.Flags.{Flags}
 use Rattle.mmbi.specs.Interface.{normalRuntime, stateOf, mayRead, mayWrite}
 use Rattle.mmbi.specs.Pointers.{pointerRight}
 use Rattle.mmbi.proofs.Pointers.{pointer-facts}
-use Rattle.ring.specs.Numbers.{setUpRight, filledOf, roomOf, nextOf}
+use Rattle.ring.specs.Numbers.{setUpRight, pointersRight, filledOf, roomOf, nextOf}
 use Rattle.ring.specs.Packet.{wholeFor, ringBytes}
 use Rattle.ring.specs.Reading as reading
 use Rattle.ring.specs.Runs.{allSized, spaceFor, allBytes, Kept, pointerAfter, wrote, writeAll, queued}
@@ -141,34 +141,47 @@ module _ (most configured : ℕ) (ring : List ℕ) (write : ℕ) where
         ∙ ap (λ (ps : List (List ℕ)). p ∷ ps)
         (all-read states next packets (holds-taken most configured ring read write packets p h) (m .1))
 
--- first in, first out, of a ring that holds packets already
-module _ (most configured read : ℕ) (out : List ℕ) (long : 4 + most ≤ length out) (states : List Flags)
-    (may-read : allReadable states ≡ true) where
-  pub fifo-behind : (flags : Flags) → mayWrite (stateOf flags) ≡ true → (kept : Kept) (held packets : List (List ℕ))
-      → Holds most configured (kept .ring) read (kept .write) held
-      → allSized most packets ≡ true → spaceFor packets ≤ roomOf configured read (kept .write)
-      → readAll most configured (writeAll most configured flags read kept packets .ring) out
-      (writeAll most configured flags read kept packets .write) states read
-      ≡ take (length states) (held ++ packets)
-  fifo-behind flags may kept held packets h sized room =
-      all-read most configured (writeAll most configured flags read kept packets .ring)
-      (writeAll most configured flags read kept packets .write) out long states read (held ++ packets)
-      (all-written most configured flags may read kept held packets h sized room) may-read
+-- as many reads as there are packets, each in a state that lets a ring be read
+module _ (most configured read : ℕ) (packets : List (List ℕ)) (states : List Flags) (may : allReadable states ≡ true)
+    (out : List ℕ) (long : 4 + most ≤ length out) where
+  -- give all that the ring holds
+  back : (ring : List ℕ) (write : ℕ) → Holds most configured ring read write packets → length states ≡ length packets
+      → readAll most configured ring out write states read ≡ packets
+  back ring write h many =
+      all-read most configured ring write out long states read packets h may
+      ∙ ap (λ (n : ℕ). take n packets) many ∙ take-length packets
 
-  -- and of an empty ring, from any pointer: as many reads as packets give them all
-  pub fifo : (ring : List ℕ) (packets : List (List ℕ)) → setUpRight most configured (length ring) ≡ true
-      → pointerRight configured read ≡ true → allSized most packets ≡ true → spaceFor packets + 4 ≤ configured
-      → length states ≡ length packets
+  -- whatever was done before: the packets whose bytes are what is filled
+  pub filled-back : (ring : List ℕ) (write : ℕ) → setUpRight most configured (length ring) ≡ true
+      → pointersRight configured read write ≡ true → allSized most packets ≡ true
+      → take (filledOf configured read write) (turn read ring) ≡ allBytes packets → length states ≡ length packets
+      → readAll most configured ring out write states read ≡ packets
+  filled-back ring write right pointers sized bytes many =
+      let p = readings.pointers-facts configured read write pointers in
+      back ring write
+      (record {
+        set-up = readings.set-up-facts most configured (length ring) right;
+        from = p .0;
+        to = p .1;
+        sized = sized;
+        bytes = bytes;
+      })
+      many
+
+  -- first in, first out: the packets written one after the other, from a pointer on at which the ring was empty
+  pub fifo : (ring : List ℕ) → setUpRight most configured (length ring) ≡ true → pointerRight configured read ≡ true
+      → allSized most packets ≡ true → spaceFor packets + 4 ≤ configured → length states ≡ length packets
       → readAll most configured (queued most configured ring read packets .ring) out
       (queued most configured ring read packets .write) states read ≡ packets
   unfolding stateOf
-  fifo ring packets right at sized fits many =
+  fifo ring right at sized fits many =
       let set-up = readings.set-up-facts most configured (length ring) right in
       let pointer = pointer-facts configured read at in
-      fifo-behind normalRuntime refl (record { ring = ring; write = read }) [] packets
+      back (queued most configured ring read packets .ring) (queued most configured ring read packets .write)
+      (all-written most configured normalRuntime refl read (record { ring = ring; write = read }) [] packets
       (holds-none most configured ring read set-up pointer) sized
-      (omega (arith, room-none configured read (set-up .size) pointer))
-      ∙ ap (λ (n : ℕ). take n packets) many ∙ take-length packets
+      (omega (arith, room-none configured read (set-up .size) pointer)))
+      many
 
 -- nothing is queued where the state doesn't let a ring be written
 pub not-queued : (most : ℕ) (ring : List ℕ) (configured : ℕ) (flags : Flags) (read write : ℕ) (p : List ℕ)
