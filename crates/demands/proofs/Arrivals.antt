@@ -6,7 +6,6 @@ use mathlib.Core.List.{List, _++_}
 use Prim.Native.Nat.{ℕ, _+_, _-_, _≤_}
 use native.Mathlib.Omega.{arith}
 use borrow.Author.Tests.{eq-eqb}
-use lib.Dec.{lit≤}
 use lib.ListN.{length, take, drop, replicate}
 use lib.Seq.{take-at}
 use Rattle.octets.specs.Bytes.{Below, fronted}
@@ -29,7 +28,7 @@ use Rattle.pcc.specs.Reading as pcc
 use Rattle.pcc.specs.Writing as regions
 use Rattle.pcc.proofs.Back as pcc-back
 use Rattle.pcc.proofs.Bytes.{every-bytes}
-use Rattle.mmbi.specs.Interface.{normalRuntime, askedByHost, askedByController, stateOf, mayRead}
+use Rattle.mmbi.specs.Interface.{stateOf, mayRead}
 use Rattle.mmbi.specs.declared.interface.Flags.{Flags}
 use Rattle.ring.specs.Numbers.{lengthRight}
 use Rattle.ring.specs.Turn.{turn, stored}
@@ -161,18 +160,3 @@ module _ (p : List ℕ) where
     arrival-bytes configured b,
     ring-found 64 (arrivalRing configured p) configured flags 0 (wholeFor (length p)) p (wholeFor (length p)) out may (ring-round.arrival-base configured p out right sized room),
   )
-
-  -- found in a ring of 128 bytes under these flags
-  abbrev Found : Flags → Type 0
-  Found flags =
-      ringCarries 64 (arrivalRing 128 p) 128 flags 0 (wholeFor (length p)) (replicate 68 0)
-      ≡ packet p (Next (wholeFor (length p)))
-
-  -- in each of the three states
-  pub every-ring-base : Below 256 p → packetSize 64 (length p) ≡ true
-      → Below 256 (arrivalRing 128 p) × Found normalRuntime × Found askedByHost × Found askedByController
-  unfolding stateOf
-  every-ring-base b sized =
-      let found : (flags : Flags) → mayRead (stateOf flags) ≡ true → Found flags =
-      λ flags may. every-ring 128 flags (replicate 68 0) b sized refl may (lit≤ tt) .1 in
-      (arrival-bytes 128 b, found normalRuntime refl, found askedByHost refl, found askedByController refl)

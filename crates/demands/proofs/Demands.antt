@@ -2,8 +2,9 @@
 -- Assumes nothing.
 use mathlib.Core.Path.{_≡_, refl, ap}
 use mathlib.Core.Bool.{Bool, true}
-use mathlib.Core.List.{List, [], _∷_, _++_}
+use mathlib.Core.List.{List, [], _∷_, _++_, map}
 use Prim.Native.Nat.{ℕ, _+_, _≤_, _<_}
+use lib.Dec.{lit≤}
 use lib.ListN.{length, take, replicate}
 use Rattle.octets.specs.Bytes.{Below, fronted}
 use Rattle.octets.specs.Words.{lowFirst, wordAt}
@@ -238,8 +239,8 @@ pub what-is-still-there-is-read-back : (ring : List ℕ) (configured read write 
 what-is-still-there-is-read-back ring configured read write packets states out right at sized bytes may many long =
     filled-back 64 configured read packets states may out long ring write right at sized bytes many
 
--- "writing stays in normal runtime only": one more packet, while an end asks for a reset, is refused with 11, and the ring
--- stays as it is
+-- "writing stays in normal runtime only": one more packet, while one end alone asks for a reset, is refused with 11,
+-- and the ring stays as it is
 pub nothing-is-queued-while-a-reset-is-asked : (ring : List ℕ) (configured read write : ℕ) (p : List ℕ)
     → setUpRight 64 configured (length ring) ≡ true → packetSize 64 (length p) ≡ true
     → (putting.writeOf 64 ring configured (mayWrite (stateOf askedByHost)) read write p
@@ -283,15 +284,18 @@ pub every-packet-by-ring : (p : List ℕ) (configured : ℕ) (flags : Flags) (ou
 every-packet-by-ring p = good.every-ring p
 
 -- of which three are for every packet: 128 bytes and an output of 68, in each of the three states
-abbrev pub smallRing : Flags → List ℕ → Arrival
-smallRing flags p = byRing (arrivalRing 128 p) 128 flags 0 (wholeFor (length p)) (replicate 68 0)
-
 pub every-packet-by-a-ring : (p : List ℕ) → Below 256 p → packetSize 64 (length p) ≡ true
     → Below 256 (arrivalRing 128 p)
-    × (carries 64 (smallRing normalRuntime p) ≡ packet p (Next (wholeFor (length p))))
-    × (carries 64 (smallRing askedByHost p) ≡ packet p (Next (wholeFor (length p))))
-    × (carries 64 (smallRing askedByController p) ≡ packet p (Next (wholeFor (length p))))
-every-packet-by-a-ring = good.every-ring-base
+    × (map
+    (λ (flags : Flags). carries 64 (byRing (arrivalRing 128 p) 128 flags 0 (wholeFor (length p)) (replicate 68 0)))
+    (normalRuntime ∷ askedByHost ∷ askedByController ∷ [])
+    ≡ replicate 3 (packet p (Next (wholeFor (length p)))))
+unfolding stateOf
+every-packet-by-a-ring p b sized =
+    let runs = every-packet-by-ring p 128 normalRuntime (replicate 68 0) b sized refl refl (lit≤ tt) in
+    let host = every-packet-by-ring p 128 askedByHost (replicate 68 0) b sized refl refl (lit≤ tt) in
+    let controller = every-packet-by-ring p 128 askedByController (replicate 68 0) b sized refl refl (lit≤ tt) in
+    (runs .0, rw (runs .1, host .1, controller .1))
 
 -- "A good SMBus frame with one or more bits changed, all within eight neighbouring bits in wire order, is refused.": at every own address
 pub changed-frame-is-refused : (frame changed : List ℕ) → Below 256 frame → Below 256 changed → WindowChange frame changed

@@ -2,7 +2,7 @@
 -- Assumes nothing.
 use mathlib.Core.Path.{_≡_, refl, ap, _∙_}
 use mathlib.Core.Bool.{Bool, true, false}
-use mathlib.Core.List.{List, [], _∷_, _++_}
+use mathlib.Core.List.{List, [], _∷_, _++_, map}
 use Prim.Native.Nat.{ℕ, _+_}
 use native.Mathlib.Omega.{arith}
 use lib.Dec.{lit≤}
@@ -25,7 +25,7 @@ use Rattle.pcc.specs.Reading as pcc
 use Rattle.pcc.specs.Writing as regions
 use Rattle.pcc.proofs.Back.{every-number}
 use Rattle.mmbi.specs.declared.interface.Flags.{Flags}
-use Rattle.mmbi.specs.Interface.{normalRuntime, askedByHost, askedByController, stateOf, mayRead, mayWrite}
+use Rattle.mmbi.specs.Interface.{flagsOf, normalRuntime, askedByHost, askedByController, stateOf, mayRead, mayWrite}
 use Rattle.descriptor.specs.declared.configuration.Part.the-variants.{B2h}
 use Rattle.descriptor.specs.Configuration.{partPlace, inside, clear, ringRight, allowed}
 use Rattle.descriptor.proofs.Literal.{windowImage, imageConfiguration, image-found}
@@ -314,10 +314,12 @@ every-packet-by-ring =
     demands.every-packet-by-ring literalPacket 65536 askedByController
     (replicate 100 0) small refl refl readable (lit≤ tt)
 
+-- 1010, 1011 and 1110
 pub every-packet-by-a-ring : Below 256 (arrivalRing 128 literalPacket)
-    × (carries 64 (demands.smallRing normalRuntime literalPacket) ≡ carrier.packet literalPacket (Next 12))
-    × (carries 64 (demands.smallRing askedByHost literalPacket) ≡ carrier.packet literalPacket (Next 12))
-    × (carries 64 (demands.smallRing askedByController literalPacket) ≡ carrier.packet literalPacket (Next 12))
+    × (map
+    (λ (flags : Flags). carries 64 (byRing (arrivalRing 128 literalPacket) 128 flags 0 12 (replicate 68 0)))
+    (flagsOf true false true false ∷ flagsOf true false true true ∷ flagsOf true true true false ∷ [])
+    ≡ replicate 3 (carrier.packet literalPacket (Next 12)))
 every-packet-by-a-ring = demands.every-packet-by-a-ring literalPacket small refl
 
 pub changed-frame-is-refused : (other : ℕ) → smbus.refusalOf 64 acrossBorder other ≡ 0 → ⊥

@@ -4,60 +4,63 @@ use mmbi::Flags;
 use ring::Put;
 use ring::Taken;
 
-// Both ends up, and a reset asked for by one, by both (then it is acknowledged) or by none.
-fn asked(controller_reset: bool, host_reset: bool) -> Flags {
-    Flags {
-        controller_up: true,
-        controller_reset,
-        host_up: true,
-        host_reset,
-    }
-}
+// 1010, 1011, 1110 and 1111.
+pub const RUNNING: Flags = Flags {
+    controller_up: true,
+    controller_reset: false,
+    host_up: true,
+    host_reset: false,
+};
 
-fn store(bytes: &mut [u8], flags: Flags, read: usize, write: usize) -> Put {
+pub const HOST_ASKS: Flags = Flags {
+    controller_up: true,
+    controller_reset: false,
+    host_up: true,
+    host_reset: true,
+};
+
+pub const CONTROLLER_ASKS: Flags = Flags {
+    controller_up: true,
+    controller_reset: true,
+    host_up: true,
+    host_reset: false,
+};
+
+pub const ACKNOWLEDGED: Flags = Flags {
+    controller_up: true,
+    controller_reset: true,
+    host_up: true,
+    host_reset: true,
+};
+
+fn store(bytes: &mut [u8], read: usize, write: usize, flags: Flags) -> Put {
     let packet = crate::ORDER;
     ring::write(bytes, 128, flags, read, write, &packet)
 }
 
-fn tell_stored(stored: Put) {
+pub fn write(read: usize, write: usize, flags: Flags) {
+    let mut bytes = [0xFFu8; 128];
+    let stored = store(&mut bytes, read, write, flags);
     match stored {
         Put::Refused(why) => text::refused(why),
         Put::Stored(next) => text::put_number(b"good, new write pointer ", next),
     }
 }
 
-pub fn write(read: usize, write: usize) {
-    let mut bytes = [0xFFu8; 128];
-    tell_stored(store(&mut bytes, asked(false, false), read, write));
-}
-
-pub fn write_asked(controller: bool, host: bool) {
-    let mut bytes = [0xFFu8; 128];
-    tell_stored(store(&mut bytes, asked(controller, host), 0, 0));
-}
-
 // Some bytes of a ring whose packet was written at a pointer.
 pub fn show(pointer: usize, from: usize, to: usize) {
     let mut bytes = [0xFFu8; 128];
-    store(&mut bytes, asked(false, false), pointer, pointer);
+    store(&mut bytes, pointer, pointer, RUNNING);
     text::show(&bytes, from, to);
 }
 
 // What reading such a ring tells.
-fn take(pointer: usize, flags: Flags, read: usize, write: usize) {
+pub fn read(pointer: usize, read: usize, write: usize, flags: Flags) {
     let mut bytes = [0xFFu8; 128];
-    store(&mut bytes, asked(false, false), pointer, pointer);
+    store(&mut bytes, pointer, pointer, RUNNING);
     let mut packet = [0u8; 68];
     let taken = ring::read(&bytes, 128, flags, read, write, &mut packet);
     tell(taken, &packet);
-}
-
-pub fn read(pointer: usize, read: usize, write: usize) {
-    take(pointer, asked(false, false), read, write);
-}
-
-pub fn read_asked(controller: bool, host: bool) {
-    take(0, asked(controller, host), 0, 12);
 }
 
 fn tell(taken: Taken, packet: &[u8]) {

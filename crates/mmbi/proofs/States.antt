@@ -3,6 +3,8 @@
 use mathlib.Core.Path.{_≡_, refl}
 use mathlib.Core.Bool.{Bool, true, false}
 use mathlib.Core.List.{[], _∷_, map}
+use Prim.Native.Nat.{ℕ, _+_}
+use lib.ListN.{getD}
 use Rattle.octets.specs.Choice.{pick}
 use Rattle.mmbi.specs.declared.interface.Flags.{Flags}
 use Rattle.mmbi.specs.declared.interface.InterfaceState.{InterfaceState}
@@ -21,23 +23,30 @@ byEnds bUp bRst hUp hRst =
     (pick hUp (pick hRst TransitioningToInitialization TemporaryTransition) (pick hRst TemporaryTransition TemporaryTransition))
     (pick hUp (pick hRst Unexpected Unexpected) (pick hRst TemporaryTransition InitializationInProgress)))
 
-pub by-ends : (bUp bRst hUp hRst : Bool) → byEnds bUp bRst hUp hRst ≡ row bUp bRst hUp hRst
-by-ends true true true true = refl
-by-ends true true true false = refl
-by-ends true true false true = refl
-by-ends true true false false = refl
-by-ends true false true true = refl
-by-ends true false true false = refl
-by-ends true false false true = refl
-by-ends true false false false = refl
-by-ends false true true true = refl
-by-ends false true true false = refl
-by-ends false true false true = refl
-by-ends false true false false = refl
-by-ends false false true true = refl
-by-ends false false true false = refl
-by-ends false false false true = refl
-by-ends false false false false = refl
+-- where the four flags stand, as the digits of a number
+abbrev placeOf : Bool → Bool → Bool → Bool → ℕ
+placeOf bUp bRst hUp hRst = pick bUp 8 0 + pick bRst 4 0 + pick hUp 2 0 + pick hRst 1 0
+
+-- that is the row of Table 5; and the sixteen flag states have every one, at its place
+pub each-row : (bUp bRst hUp hRst : Bool)
+    → (byEnds bUp bRst hUp hRst ≡ row bUp bRst hUp hRst)
+    × (getD sixteen (placeOf bUp bRst hUp hRst) normalRuntime ≡ flagsOf bUp bRst hUp hRst)
+each-row true true true true = (refl, refl)
+each-row true true true false = (refl, refl)
+each-row true true false true = (refl, refl)
+each-row true true false false = (refl, refl)
+each-row true false true true = (refl, refl)
+each-row true false true false = (refl, refl)
+each-row true false false true = (refl, refl)
+each-row true false false false = (refl, refl)
+each-row false true true true = (refl, refl)
+each-row false true true false = (refl, refl)
+each-row false true false true = (refl, refl)
+each-row false true false false = (refl, refl)
+each-row false false true true = (refl, refl)
+each-row false false true false = (refl, refl)
+each-row false false false true = (refl, refl)
+each-row false false false false = (refl, refl)
 
 -- every row of Table 5
 pub all-states :

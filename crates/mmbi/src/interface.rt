@@ -105,8 +105,8 @@ pub fn transient(s: InterfaceState) -> bool
     }
 }
 
-// Whether a ring may be read: in normal runtime, and while either end asks for a reset, so that what was queued isn't
-// dropped.
+// Whether a ring may be read: in normal runtime, and while one end alone asks for a reset, so that what was queued
+// isn't dropped.
 pub fn may_read(s: InterfaceState) -> bool
     ensures { λ r. ⌜ r ≡ mayRead s ⌝ }
 {

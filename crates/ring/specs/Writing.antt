@@ -26,8 +26,8 @@ abbrev pub saidOf : Put → Said
 saidOf (Stored next) = written next
 saidOf (Refused refusal) = refused (numberOf refusal)
 
--- "Writing: 1, 3, 11, 12, 2 (needs more than room)"; of the packet the size alone is looked at; 11 is for every state but
--- normal runtime
+-- "Writing: 1, 3, 11, 12, 2 (needs more than room)"; of the packet the size alone is looked at; 11 is for every state
+-- but normal runtime
 unfoldable pub putOf : ℕ → ℕ → ℕ → Bool → ℕ → ℕ → ℕ → Said
 putOf most lent configured running read write size =
     pick (not (setUpRight most configured lent)) (refused 1)

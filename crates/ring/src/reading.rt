@@ -113,8 +113,8 @@ pub fn read_up_to(
     }
 }
 
-// The packet at the read pointer, copied to the output's front; 11 unless the interface is in normal runtime, or an end
-// asks for a reset.
+// The packet at the read pointer, copied to the output's front; 11 unless the interface is in normal runtime, or one
+// end alone asks for a reset.
 pub fn read(
     ring: &[u8],
     configured: usize,
