@@ -2,15 +2,36 @@
 -- Assumes nothing.
 use mathlib.Core.Path.{_≡_, refl}
 use mathlib.Core.Bool.{Bool, true, false}
-use mathlib.Core.List.{[], _∷_, map}
+use mathlib.Core.List.{List, [], _∷_, map}
 use Prim.Native.Nat.{ℕ, _+_}
 use lib.ListN.{getD}
 use Rattle.octets.specs.Choice.{pick}
 use Rattle.mmbi.specs.declared.interface.Flags.{Flags}
 use Rattle.mmbi.specs.declared.interface.InterfaceState.{InterfaceState}
 use Rattle.mmbi.specs.declared.interface.InterfaceState.the-variants.{InitializationInProgress, InitializationCompleted, NormalRuntime, ResetRequestByController, ResetRequestByHost, ResetAcked, TransitioningToInitialization, TemporaryTransition, InitializationMismatch, Unexpected}
-use Rattle.mmbi.specs.Interface.{row, flagsOf, normalRuntime, askedByHost, askedByController, sixteen, stateOf}
+use Rattle.mmbi.specs.Interface.{row, flagsOf, normalRuntime, askedByHost, askedByController, stateOf}
 use Rattle.mmbi.specs.Interface.{isTransient, mayRead, mayWrite}
+
+-- the sixteen flag states, from 0000 to 1111
+abbrev pub sixteen : List Flags
+sixteen =
+    flagsOf false false false false
+    ∷ flagsOf false false false true
+    ∷ flagsOf false false true false
+    ∷ flagsOf false false true true
+    ∷ flagsOf false true false false
+    ∷ flagsOf false true false true
+    ∷ flagsOf false true true false
+    ∷ flagsOf false true true true
+    ∷ flagsOf true false false false
+    ∷ flagsOf true false false true
+    ∷ flagsOf true false true false
+    ∷ flagsOf true false true true
+    ∷ flagsOf true true false false
+    ∷ flagsOf true true false true
+    ∷ flagsOf true true true false
+    ∷ flagsOf true true true true
+    ∷ []
 
 -- Table 5 by the controller's flags and then the host's, as the code has it
 abbrev byEnds : Bool → Bool → Bool → Bool → InterfaceState

@@ -1,7 +1,6 @@
 -- The state of the interface (003, Table 5; document 01, "MMBI descriptor, state and ring").
 -- Assumes nothing.
 use mathlib.Core.Bool.{Bool, true, false}
-use mathlib.Core.List.{List, [], _∷_}
 use Rattle.mmbi.specs.declared.interface.Flags.{Flags}
 use Rattle.mmbi.specs.declared.interface.InterfaceState.{InterfaceState}
 use Rattle.mmbi.specs.declared.interface.InterfaceState.the-variants.{InitializationInProgress, InitializationCompleted, NormalRuntime, ResetRequestByController, ResetRequestByHost, ResetAcked, TransitioningToInitialization, TemporaryTransition, InitializationMismatch, Unexpected}
@@ -38,27 +37,6 @@ askedByHost = flagsOf true false true true
 
 abbrev pub askedByController : Flags
 askedByController = flagsOf true true true false
-
--- the sixteen flag states, from 0000 to 1111
-abbrev pub sixteen : List Flags
-sixteen =
-    flagsOf false false false false
-    ∷ flagsOf false false false true
-    ∷ flagsOf false false true false
-    ∷ flagsOf false false true true
-    ∷ flagsOf false true false false
-    ∷ flagsOf false true false true
-    ∷ flagsOf false true true false
-    ∷ flagsOf false true true true
-    ∷ flagsOf true false false false
-    ∷ flagsOf true false false true
-    ∷ flagsOf true false true false
-    ∷ flagsOf true false true true
-    ∷ flagsOf true true false false
-    ∷ flagsOf true true false true
-    ∷ flagsOf true true true false
-    ∷ flagsOf true true true true
-    ∷ []
 
 -- "State from the four flags (B_UP, B_RST, H_UP, H_RST)"
 unfoldable pub stateOf : Flags → InterfaceState

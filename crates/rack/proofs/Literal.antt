@@ -10,7 +10,8 @@ use Rattle.smbus.proofs.Literal as frame
 use Rattle.pcc.specs.Literal.{literalPacket, literalRegion}
 use Rattle.pcc.proofs.Literal as region
 use Rattle.mmbi.specs.declared.interface.Flags.{Flags}
-use Rattle.mmbi.specs.Interface.{normalRuntime, sixteen, stateOf}
+use Rattle.mmbi.specs.Interface.{normalRuntime, stateOf}
+use Rattle.mmbi.proofs.States.{sixteen}
 use Rattle.ring.specs.Numbers.{filledOf, nextOf}
 use Rattle.ring.specs.Turn.{turn}
 use Rattle.ring.specs.Packet as bytes

@@ -8,8 +8,9 @@ use lib.ListN.{replicate}
 use Rattle.octets.specs.Bytes.{fronted}
 use Rattle.octets.specs.Words.{wordAt, wordBytes}
 use Rattle.mmbi.specs.declared.interface.Flags.{Flags}
-use Rattle.mmbi.specs.Interface.{flagsOf, normalRuntime, askedByHost, askedByController, sixteen, stateOf}
+use Rattle.mmbi.specs.Interface.{flagsOf, normalRuntime, askedByHost, askedByController, stateOf}
 use Rattle.mmbi.specs.Interface.{mayRead, mayWrite}
+use Rattle.mmbi.proofs.States.{sixteen}
 use Rattle.ring.specs.Numbers.{filledOf, roomOf, nextOf}
 use Rattle.ring.specs.Packet.{packetOf, headerFor, ringBytes}
 use Rattle.ring.specs.Reading as reading
