@@ -48,7 +48,7 @@ byEnds bUp bRst hUp hRst =
 abbrev placeOf : Bool → Bool → Bool → Bool → ℕ
 placeOf bUp bRst hUp hRst = pick bUp 8 0 + pick bRst 4 0 + pick hUp 2 0 + pick hRst 1 0
 
--- that is the row of Table 5; and the sixteen flag states have every one, at its place
+-- the code's table has the row of Table 5, and the sixteen flag states leave none out: each stands at its place
 pub each-row : (bUp bRst hUp hRst : Bool)
     → (byEnds bUp bRst hUp hRst ≡ row bUp bRst hUp hRst)
     × (getD sixteen (placeOf bUp bRst hUp hRst) normalRuntime ≡ flagsOf bUp bRst hUp hRst)
