@@ -31,7 +31,8 @@ use Rattle.slots.proofs.States.{Right, right-of, most-bounds}
 use Rattle.slots.proofs.Found.{key-alone, slot-of-has, slot-of-none, lowest-is-free}
 use Rattle.slots.proofs.Numbers.{Numbers, gathering-of, gathering-holds}
 use Rattle.decision.specs.Checks.{setupRefusal, packetRefusal, sourceRefusal}
-use Rattle.decision.specs.Rules.{Decision, refuse, release, put, after, wrongUnit, onStart, gathered, follow, onFollow, ruled}
+use Rattle.decision.specs.Rules.{Decision, refuse, release, put, after, wrongUnit, onStart, gathered, follow}
+use Rattle.decision.specs.Rules.{onFollow, ruled}
 use Rattle.decision.specs.Decision.{fromSource, fromPacket, decided}
 use Rattle.decision.specs.Possible.{Possible}
 use Rattle.decision.proofs.Checks.{PacketGood, setup-good, packet-good}
@@ -47,7 +48,8 @@ pub record Fits (most : ℕ) (r : Receiver) (p : List ℕ) (i at : ℕ) (then : 
   pub alone : (j : ℕ) → j < 4 → (i ≡ j → ⊥) → clash then (slotAt (r .slots) j) ≡ false
 
 -- the slot's state after a packet is right, and its key is no other slot's
-after-right : (most : ℕ) (s : Setup) (h : Header) (unit held : ℕ) → (h .end ≡ false → Numbers most (h .sequence) unit held)
+after-right : (most : ℕ) (s : Setup) (h : Header) (unit held : ℕ)
+    → (h .end ≡ false → Numbers most (h .sequence) unit held)
     → h .key .tag ≤ 7 → oursOf s (h .key .destination .0) ≡ true → rightSlot most s (after h unit held) ≡ true
 unfolding after rightSlot
 after-right most s h unit held n t o =
@@ -55,7 +57,8 @@ after-right most s h unit held n t o =
     (λ e. refl)
     (λ e. gathering-holds most s (h .key) (h .sequence) unit held (n e) t o)
 
-after-alone : (h : Header) (unit held : ℕ) (t : SlotState) → hasKey (h .key) t ≡ false → clash (after h unit held) t ≡ false
+after-alone : (h : Header) (unit held : ℕ) (t : SlotState) → hasKey (h .key) t ≡ false
+    → clash (after h unit held) t ≡ false
 unfolding after clash
 after-alone h unit held t e =
     pick-elim (λ x. clash x t ≡ false) (h .end) Free (Gathering (h .key) (h .sequence) unit held) (λ f. refl) (λ f. e)
@@ -66,7 +69,8 @@ gathers-below l i k q u h four e =
     by-cases (decLt i 4) (λ (b : i < 4). b)
     (λ (n : i < 4 → ⊥).
     let past : length l ≤ i = omega arith in
-    absurd (true≢false (sym (ap (λ (x : Slot). isFree (x .state)) (List·getD-eq-default l (record { state = Free }) past)) ∙ ap isFree e)))
+    absurd (true≢false (sym (ap (λ (x : Slot). isFree (x .state))
+    (List·getD-eq-default l (record { state = Free }) past)) ∙ ap isFree e)))
 
 module _ (most : ℕ) (r : Receiver) (p : List ℕ) (right : rightState most r ≡ true) (good : PacketGood most (r .setup) p)
     (P : Decision → Type 0)
@@ -96,12 +100,15 @@ module _ (most : ℕ) (r : Receiver) (p : List ℕ) (right : rightState most r �
   key-is = refl
 
   -- a slot that has the packet's key is one that the packet may take
-  may-take : (i : ℕ) → hasKey (headerOf p .key) (slotAt (r .slots) i) ≡ true → (isFree (slotAt (r .slots) i) || hasKey (keyOf p) (slotAt (r .slots) i)) ≡ true
+  may-take : (i : ℕ) → hasKey (headerOf p .key) (slotAt (r .slots) i) ≡ true
+      → (isFree (slotAt (r .slots) i) || hasKey (keyOf p) (slotAt (r .slots) i)) ≡ true
   may-take i e =
-      let own : hasKey (keyOf p) (slotAt (r .slots) i) ≡ true = ap (λ (j : Key). hasKey j (slotAt (r .slots) i)) (sym key-is) ∙ e in
+      let own : hasKey (keyOf p) (slotAt (r .slots) i) ≡ true =
+      ap (λ (j : Key). hasKey j (slotAt (r .slots) i)) (sym key-is) ∙ e in
       rw own (or-true (isFree (slotAt (r .slots) i)))
 
-  start-fits : (i : ℕ) → i < 4 → (isFree (slotAt (r .slots) i) || hasKey (keyOf p) (slotAt (r .slots) i)) ≡ true → ((j : ℕ) → j < 4 → (i ≡ j → ⊥) → hasKey (headerOf p .key) (slotAt (r .slots) j) ≡ false)
+  start-fits : (i : ℕ) → i < 4 → (isFree (slotAt (r .slots) i) || hasKey (keyOf p) (slotAt (r .slots) i)) ≡ true
+      → ((j : ℕ) → j < 4 → (i ≡ j → ⊥) → hasKey (headerOf p .key) (slotAt (r .slots) j) ≡ false)
       → Fits most r p i 0 (after (headerOf p) (length (bodyOf p)) (length (bodyOf p)))
   start-fits i h t a =
       record {
@@ -110,9 +117,17 @@ module _ (most : ℕ) (r : Receiver) (p : List ℕ) (right : rightState most r �
         place = omega (arith, body);
         size = within-bounds 5 (4 + most) (length p) (good .size);
         right = after-right most (r .setup) (headerOf p) (length (bodyOf p)) (length (bodyOf p))
-            (λ e. record { unit-low = body .0; unit-high = body .1; whole = mod-self (length (bodyOf p)); held-low = body .0; held-high = omega (arith, body); sequence = last })
+            (λ e. record {
+              unit-low = body .0;
+              unit-high = body .1;
+              whole = mod-self (length (bodyOf p));
+              held-low = body .0;
+              held-high = omega (arith, body);
+              sequence = last;
+            })
             tag ours;
-        alone = λ j hj d. after-alone (headerOf p) (length (bodyOf p)) (length (bodyOf p)) (slotAt (r .slots) j) (a j hj d);
+        alone =
+            λ j hj d. after-alone (headerOf p) (length (bodyOf p)) (length (bodyOf p)) (slotAt (r .slots) j) (a j hj d);
       }
 
   by-start : P (onStart (r .slots) (headerOf p) (length (bodyOf p)))
@@ -121,14 +136,21 @@ module _ (most : ℕ) (r : Receiver) (p : List ℕ) (right : rightState most r �
       pick-elim P (ltb (slotOf (r .slots) (headerOf p .key)) 4) _ _
       (λ e.
       let low = ltb-true (slotOf (r .slots) (headerOf p .key)) 4 e in
-      puts _ _ _ _ (start-fits (slotOf (r .slots) (headerOf p .key)) low (may-take _ (slot-of-has (r .slots) (headerOf p .key) low)) (λ j hj d. key-alone most r R (headerOf p .key) (slotOf (r .slots) (headerOf p .key)) j low hj d (slot-of-has (r .slots) (headerOf p .key) low))))
+      puts _ _ _ _ (start-fits (slotOf (r .slots) (headerOf p .key)) low
+      (may-take _ (slot-of-has (r .slots) (headerOf p .key) low))
+      (λ j hj d. key-alone most r R (headerOf p .key) (slotOf (r .slots) (headerOf p .key)) j low hj d
+      (slot-of-has (r .slots) (headerOf p .key) low))))
       (λ e.
       pick-elim P (ltb (lowestFree (r .slots) 0 4) 4) _ _
       (λ f.
-      puts _ _ _ _ (start-fits (lowestFree (r .slots) 0 4) (ltb-true (lowestFree (r .slots) 0 4) 4 f) (rw (lowest-is-free (r .slots) (ltb-true (lowestFree (r .slots) 0 4) 4 f))) (λ j hj d. slot-of-none (r .slots) (headerOf p .key) (ltb-false (slotOf (r .slots) (headerOf p .key)) 4 e) j hj)))
+      puts _ _ _ _ (start-fits (lowestFree (r .slots) 0 4) (ltb-true (lowestFree (r .slots) 0 4) 4 f)
+      (rw (lowest-is-free (r .slots) (ltb-true (lowestFree (r .slots) 0 4) 4 f)))
+      (λ j hj d. slot-of-none (r .slots) (headerOf p .key)
+      (ltb-false (slotOf (r .slots) (headerOf p .key)) 4 e) j hj)))
       (λ f. refuses 18 (lit≤ tt) (lit≤ tt)))
 
-  module _ (k : Key) (q u hd : ℕ) (e : slotAt (r .slots) (slotOf (r .slots) (headerOf p .key)) ≡ Gathering k q u hd) where
+  module _ (k : Key) (q u hd : ℕ)
+      (e : slotAt (r .slots) (slotOf (r .slots) (headerOf p .key)) ≡ Gathering k q u hd) where
     low : slotOf (r .slots) (headerOf p .key) < 4
     low = gathers-below (r .slots) _ k q u hd (R .four) e
 
@@ -141,7 +163,9 @@ module _ (most : ℕ) (r : Receiver) (p : List ℕ) (right : rightState most r �
     append-fits : wrongUnit (headerOf p .end) u (length (bodyOf p)) ≡ false → hd + length (bodyOf p) ≤ 1024
         → Fits most r p (slotOf (r .slots) (headerOf p .key)) hd (after (headerOf p) u (hd + length (bodyOf p)))
     append-fits w f =
-        let same : headerOf p .end ≡ false → length (bodyOf p) ≡ u = λ d. eqb-true (length (bodyOf p)) u (not-false _ (ap (λ (b : Bool). wrongUnit b u (length (bodyOf p))) (sym d) ∙ w)) in
+        let same : headerOf p .end ≡ false
+        → length (bodyOf p) ≡ u = λ d. eqb-true (length (bodyOf p)) u
+        (not-false _ (ap (λ (b : Bool). wrongUnit b u (length (bodyOf p))) (sym d) ∙ w)) in
         record {
           slot = low;
           taken = may-take _ has;
@@ -157,28 +181,36 @@ module _ (most : ℕ) (r : Receiver) (p : List ℕ) (right : rightState most r �
                 sequence = last;
               })
               tag ours;
-          alone = λ j hj d. after-alone (headerOf p) u (hd + length (bodyOf p)) (slotAt (r .slots) j) (key-alone most r R (headerOf p .key) (slotOf (r .slots) (headerOf p .key)) j low hj d has);
+          alone =
+              λ j hj d. after-alone (headerOf p) u (hd + length (bodyOf p)) (slotAt (r .slots) j)
+              (key-alone most r R (headerOf p .key) (slotOf (r .slots) (headerOf p .key)) j low hj d has);
         }
 
     by-gathered : P (gathered (slotOf (r .slots) (headerOf p .key)) q u hd (headerOf p) (length (bodyOf p)))
     unfolding gathered
     by-gathered =
         let i = slotOf (r .slots) (headerOf p .key) in
-        let own = ap (λ (j : Key). hasKey j (slotAt (r .slots) (slotOf (r .slots) (headerOf p .key)))) (sym key-is) ∙ has in
-        pick-elim P (not (eqb (headerOf p .sequence) ((q + 1) % 4))) _ _ (λ a. releases i 20 low (lit≤ tt) (lit≤ tt) own)
+        let own = ap (λ (j : Key). hasKey j (slotAt (r .slots) (slotOf (r .slots) (headerOf p .key)))) (sym key-is)
+        ∙ has in
+        pick-elim P (not (eqb (headerOf p .sequence) ((q + 1) % 4))) _ _
+        (λ a. releases i 20 low (lit≤ tt) (lit≤ tt) own)
         (λ a.
-        pick-elim P (wrongUnit (headerOf p .end) u (length (bodyOf p))) _ _ (λ b. releases i 21 low (lit≤ tt) (lit≤ tt) own)
+        pick-elim P (wrongUnit (headerOf p .end) u (length (bodyOf p))) _ _
+        (λ b. releases i 21 low (lit≤ tt) (lit≤ tt) own)
         (λ b.
         pick-elim P (ltb 1024 (hd + length (bodyOf p))) _ _ (λ c. releases i 22 low (lit≤ tt) (lit≤ tt) own)
         (λ c. puts _ _ _ _ (append-fits b (ltb-false 1024 (hd + length (bodyOf p)) c)))))
 
-  by-state : (s : SlotState) → slotAt (r .slots) (slotOf (r .slots) (headerOf p .key)) ≡ s → P (follow (slotOf (r .slots) (headerOf p .key)) s (headerOf p) (length (bodyOf p)))
+  by-state : (s : SlotState) → slotAt (r .slots) (slotOf (r .slots) (headerOf p .key)) ≡ s
+      → P (follow (slotOf (r .slots) (headerOf p .key)) s (headerOf p) (length (bodyOf p)))
   by-state Free e = refuses 19 (lit≤ tt) (lit≤ tt)
   by-state (Gathering k q u hd) e = by-gathered k q u hd e
 
   pub by-rules : P (ruled (r .slots) (headerOf p) (length (bodyOf p)))
   unfolding ruled onFollow
-  by-rules = pick-elim P (headerOf p .start) _ _ (λ e. by-start) (λ e. by-state (slotAt (r .slots) (slotOf (r .slots) (headerOf p .key))) refl)
+  by-rules =
+      pick-elim P (headerOf p .start) _ _ (λ e. by-start)
+      (λ e. by-state (slotAt (r .slots) (slotOf (r .slots) (headerOf p .key))) refl)
 
 -- the refusals before the rules have the numbers 1 to 17
 setup-high : (most : ℕ) (r : Receiver) (size : ℕ) → setupRefusal most r size ≤ 19
@@ -203,18 +235,22 @@ source-high p = pick-elim (λ n. n ≤ 19) (not (endpointEid (sourceOf p))) 17 0
 -- packet's key, and of every body put where it fits, holds of the decision on any packet in any state
 pub every-decision : (most : ℕ) (r : Receiver) (size : ℕ) (p : List ℕ) (P : Decision → Type 0)
     → ((n : ℕ) → 1 ≤ n → n ≤ 19 → P (refuse n))
-    → (rightState most r ≡ true → (i n : ℕ) → i < 4 → 20 ≤ n → n ≤ 22 → hasKey (keyOf p) (slotAt (r .slots) i) ≡ true → P (release i n))
-    → (rightState most r ≡ true → size ≡ 4096 → (i at : ℕ) (again : Bool) (then : SlotState) → Fits most r p i at then → P (put i at again then))
+    → (rightState most r ≡ true → (i n : ℕ) → i < 4 → 20 ≤ n → n ≤ 22 → hasKey (keyOf p) (slotAt (r .slots) i) ≡ true
+    → P (release i n))
+    → (rightState most r ≡ true → size ≡ 4096 → (i at : ℕ) (again : Bool) (then : SlotState) → Fits most r p i at then
+    → P (put i at again then))
     → P (decided most r size p)
 unfolding decided fromPacket fromSource
 every-decision most r size p P f g h =
     unless-elim P (setupRefusal most r size) _ (λ a. f (setupRefusal most r size) a (setup-high most r size))
     (λ s.
     let set = setup-good most r size s in
-    unless-elim P (packetRefusal most (r .setup) p) _ (λ a. f (packetRefusal most (r .setup) p) a (packet-high most (r .setup) p))
+    unless-elim P (packetRefusal most (r .setup) p) _
+    (λ a. f (packetRefusal most (r .setup) p) a (packet-high most (r .setup) p))
     (λ q.
     unless-elim P (sourceRefusal p) _ (λ a. f (sourceRefusal p) a (source-high p))
-    (λ t. by-rules most r p (set .state) (packet-good most (r .setup) p q) P f (g (set .state)) (h (set .state) (set .memory)))))
+    (λ t. by-rules most r p (set .state) (packet-good most (r .setup) p q) P f (g (set .state))
+    (h (set .state) (set .memory)))))
 
 -- every decision can be carried out
 pub decision-possible : (most : ℕ) (r : Receiver) (size : ℕ) (p : List ℕ) → Possible p (decided most r size p)

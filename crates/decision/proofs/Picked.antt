@@ -10,11 +10,13 @@ use Rattle.octets.specs.Choice.{pick}
 use Rattle.decision.specs.Rules.{Decision, refuse}
 use Rattle.decision.specs.Decision.{unless}
 
-pub pick-elim : {A : Type 0} (P : A → Type 0) (b : Bool) (x y : A) → (b ≡ true → P x) → (b ≡ false → P y) → P (pick b x y)
+pub pick-elim : {A : Type 0} (P : A → Type 0) (b : Bool) (x y : A) → (b ≡ true → P x) → (b ≡ false → P y)
+    → P (pick b x y)
 pick-elim P true x y f g = f refl
 pick-elim P false x y f g = g refl
 
-pub unless-elim : (P : Decision → Type 0) (n : ℕ) (d : Decision) → (1 ≤ n → P (refuse n)) → (n ≡ 0 → P d) → P (unless n d)
+pub unless-elim : (P : Decision → Type 0) (n : ℕ) (d : Decision) → (1 ≤ n → P (refuse n)) → (n ≡ 0 → P d)
+    → P (unless n d)
 unless-elim P n d f g =
     pick-elim P (eqb n 0) d (refuse n)
     (λ e. g (eqb-true n 0 e))

@@ -50,19 +50,23 @@ use Rattle.rack.specs.Answers.{given, nothing, arrivedOf}
 use Rattle.rack.proofs.Carriers.{ring-carries, ring-front}
 
 module _ (most : ℕ) (r : Receiver) (m : List ℕ) where
-  pub none-leaves-all : (a : Arrival) (why : Without) → carries most a ≡ none why → arrivedOf most r m (carries most a) ≡ record { told = nothing why; receiver = r; memory = m }
+  pub none-leaves-all : (a : Arrival) (why : Without) → carries most a ≡ none why
+      → arrivedOf most r m (carries most a) ≡ record { told = nothing why; receiver = r; memory = m }
   none-leaves-all a why e = ap (arrivedOf most r m) e
 
   pub rules-refused : (known : Known) (n : ℕ) (c : Carried) → arrivedOf most r m c .told ≡ given known (refused n)
-      → (n ≡ 20 → ⊥) → (n ≡ 21 → ⊥) → (n ≡ 22 → ⊥) → Unchanged r m (arrivedOf most r m c .receiver) (arrivedOf most r m c .memory)
+      → (n ≡ 20 → ⊥) → (n ≡ 21 → ⊥) → (n ≡ 22 → ⊥)
+      → Unchanged r m (arrivedOf most r m c .receiver) (arrivedOf most r m c .memory)
   rules-refused known n (packet p k) e n20 n21 n22 = refused-unchanged most r m p n (cc) n20 n21 n22
   rules-refused known n (none why) e n20 n21 n22 = record { setup = refl; slots = refl; memory = refl }
 
-  pub rules-freed : (p : List ℕ) (known : Known) (n : ℕ) (c : Carried) → c ≡ packet p known → arrivedOf most r m c .told ≡ given known (refused n)
+  pub rules-freed : (p : List ℕ) (known : Known) (n : ℕ) (c : Carried) → c ≡ packet p known
+      → arrivedOf most r m c .told ≡ given known (refused n)
       → 20 ≤ n → SlotFreed (keyOf p) r m (arrivedOf most r m c .receiver) (arrivedOf most r m c .memory)
   rules-freed p known n c is e twenty =
       subst
-      (λ (d : Carried). arrivedOf most r m d .told ≡ given known (refused n) → SlotFreed (keyOf p) r m (arrivedOf most r m d .receiver) (arrivedOf most r m d .memory))
+      (λ (d : Carried). arrivedOf most r m d .told ≡ given known (refused n)
+      → SlotFreed (keyOf p) r m (arrivedOf most r m d .receiver) (arrivedOf most r m d .memory))
       (sym is)
       (λ (t : given known (stepOf most r m p .said) ≡ given known (refused n)). refused-freed most r m p n (cc) twenty)
       e
@@ -72,54 +76,72 @@ module _ (most : ℕ) where
   pub frame-layout : (frame : List ℕ) (own : ℕ) → smbus.refusalOf most frame own ≡ 0
       → frame ≡ frameOf own (smbus.sourceAddressOf most frame own) (smbus.packetOf most frame own)
   frame-layout frame own h =
-      rw (good-packet most frame own h, good-source most frame own h) (good-frame most frame own (good most frame own h))
+      rw (good-packet most frame own h, good-source most frame own h)
+      (good-frame most frame own (good most frame own h))
 
   -- three facts make an arrival of a frame, and of a region
-  pub smbus-found : (frame : List ℕ) (own : ℕ) (p : List ℕ) (source : ℕ) → smbus.refusalOf most frame own ≡ 0 → smbus.packetOf most frame own ≡ p
+  pub smbus-found : (frame : List ℕ) (own : ℕ) (p : List ℕ) (source : ℕ) → smbus.refusalOf most frame own ≡ 0
+      → smbus.packetOf most frame own ≡ p
       → smbus.sourceAddressOf most frame own ≡ source → smbusCarries most frame own ≡ packet p (Source source)
   unfolding smbusCarries
   smbus-found frame own p source n e a = rw (eq-eqb (smbus.refusalOf most frame own) 0 n, e, a)
 
-  pub pcc-found : (region : List ℕ) (id : ℕ) (p : List ℕ) (notify : Bool) → pcc.refusalOf most region id ≡ 0 → pcc.packetOf most region id ≡ p
+  pub pcc-found : (region : List ℕ) (id : ℕ) (p : List ℕ) (notify : Bool) → pcc.refusalOf most region id ≡ 0
+      → pcc.packetOf most region id ≡ p
       → pcc.notifyOf most region id ≡ notify → pccCarries most region id ≡ packet p (Notify notify)
   unfolding pccCarries
   pcc-found region id p notify n e f = rw (eq-eqb (pcc.refusalOf most region id) 0 n, e, f)
 
   -- and a reading that leaves the packet at the output's front makes one of a ring
-  pub ring-found : (bytes : List ℕ) (configured : ℕ) (flags : Flags) (read write : ℕ) (p : List ℕ) (next : ℕ) (out : List ℕ) → mayRead (stateOf flags) ≡ true
-      → taking.readOf most bytes configured true read write out ≡ taking.left (taking.packet (length p) next) (fronted out p)
+  pub ring-found : (bytes : List ℕ) (configured : ℕ) (flags : Flags) (read write : ℕ) (p : List ℕ) (next : ℕ)
+      (out : List ℕ) → mayRead (stateOf flags) ≡ true
+      → taking.readOf most bytes configured true read write out
+      ≡ taking.left (taking.packet (length p) next) (fronted out p)
       → ringCarries most bytes configured flags read write out ≡ packet p (Next next)
   unfolding fronted
   ring-found bytes configured flags read write p next out may e =
       let told = sym (ap (λ (b : Bool). taking.readOf most bytes configured b read write out) may ∙ e) in
       let answer = case.Packet (length p) next in
-      let front = ring-front most bytes configured flags read write out (fronted out p) answer told (length p) next refl in
+      let front = ring-front most bytes configured flags read write out (fronted out p) answer told
+      (length p) next refl in
       ring-carries most bytes configured flags read write out (fronted out p) answer told answer refl
       ∙ ap (λ (q : List ℕ). packet q (Next next)) (sym front ∙ take-at p (drop (length p) out) (length p) refl)
 
-  pub frame-back : (out p : List ℕ) (destination source : ℕ) → frames.writeRefusal most (length out) (length p) destination source ≡ 0
-      → smbusCarries most (take (frames.frameSize (length p)) (frames.outputOf most out p destination source)) destination ≡ packet p (Source source)
+  pub frame-back : (out p : List ℕ) (destination source : ℕ)
+      → frames.writeRefusal most (length out) (length p) destination source ≡ 0
+      → smbusCarries most (take (frames.frameSize (length p)) (frames.outputOf most out p destination source))
+      destination ≡ packet p (Source source)
   frame-back out p destination source e =
       let f = fits most (length out) (length p) destination source e in
       let written = take (frames.frameSize (length p)) (frames.outputOf most out p destination source) in
-      smbus-found written destination p source (smbus-back.back-number most out p destination source f) (smbus-back.back-packet most out p destination source f) (smbus-back.back-source most out p destination source f)
+      smbus-found written destination p source (smbus-back.back-number most out p destination source f)
+      (smbus-back.back-packet most out p destination source f)
+      (smbus-back.back-source most out p destination source f)
 
-  pub region-back : (region : List ℕ) (id : ℕ) (notify : Bool) (p : List ℕ) → regions.writeRefusal most (length region) id (length p) ≡ 0
+  pub region-back : (region : List ℕ) (id : ℕ) (notify : Bool) (p : List ℕ)
+      → regions.writeRefusal most (length region) id (length p) ≡ 0
       → pccCarries most (regions.writtenOf most region id notify p) id ≡ packet p (Notify notify)
   region-back region id notify p e =
-      pcc-found (regions.writtenOf most region id notify p) id p notify (pcc-back.back-number most region id notify p e) (pcc-back.back-packet most region id notify p e) (pcc-back.back-notify most region id notify p e)
+      pcc-found (regions.writtenOf most region id notify p) id p notify
+      (pcc-back.back-number most region id notify p e) (pcc-back.back-packet most region id notify p e)
+      (pcc-back.back-notify most region id notify p e)
 
-  pub ring-back : (bytes : List ℕ) (configured : ℕ) (running : Bool) (read write : ℕ) (p : List ℕ) (next : ℕ) (flags : Flags) (out : List ℕ)
-      → putting.writeOf most bytes configured running read write p .says ≡ putting.written next → mayRead (stateOf flags) ≡ true → 4 + most ≤ length out
-      → ringCarries most (putting.writeOf most bytes configured running read write p .ring) configured flags write next out ≡ packet p (Next next)
+  pub ring-back : (bytes : List ℕ) (configured : ℕ) (running : Bool) (read write : ℕ) (p : List ℕ) (next : ℕ)
+      (flags : Flags) (out : List ℕ)
+      → putting.writeOf most bytes configured running read write p .says ≡ putting.written next
+      → mayRead (stateOf flags) ≡ true → 4 + most ≤ length out
+      → ringCarries most (putting.writeOf most bytes configured running read write p .ring) configured flags write next
+      out ≡ packet p (Next next)
   ring-back bytes configured running read write p next flags out e may room =
       ring-found (putting.writeOf most bytes configured running read write p .ring) configured flags write next p next
       out may
       (ring-round.round-trip most bytes configured running read write p next out e room)
 
 module _ (p : List ℕ) where
-  pub every-frame : (destination source : ℕ) → Below 256 p → packetSize 64 (length p) ≡ true → destination ≤ 127 → source ≤ 127
-      → Below 256 (frameOf destination source p) × (smbusCarries 64 (frameOf destination source p) destination ≡ packet p (Source source))
+  pub every-frame : (destination source : ℕ) → Below 256 p → packetSize 64 (length p) ≡ true → destination ≤ 127
+      → source ≤ 127
+      → Below 256 (frameOf destination source p)
+      × (smbusCarries 64 (frameOf destination source p) destination ≡ packet p (Source source))
   every-frame destination source b sized to by =
       let bounds = within-bounds 5 68 (length p) sized in
       let least : 64 ≤ 64 = omega arith in
@@ -135,13 +157,16 @@ module _ (p : List ℕ) where
       → Below 256 (regionFor id notify p) × (pccCarries 64 (regionFor id notify p) id ≡ packet p (Notify notify))
   every-region id notify b sized subspace = (
     every-bytes id notify p b,
-    pcc-found 64 (regionFor id notify p) id p notify (pcc-back.every-number 64 id notify p refl subspace sized) (pcc-back.every-packet 64 id notify p refl subspace sized) (pcc-back.every-notify 64 id notify p refl subspace sized),
+    pcc-found 64 (regionFor id notify p) id p notify (pcc-back.every-number 64 id notify p refl subspace sized)
+        (pcc-back.every-packet 64 id notify p refl subspace sized)
+        (pcc-back.every-notify 64 id notify p refl subspace sized),
   )
 
   ring-bytes : Below 256 p → Below 256 (ringBytes p)
   unfolding ringBytes
   ring-bytes b =
-      below-append (wordBytes highFirst (headerFor (length p))) (p ++ replicate (paddingFor (length p)) 0) (below-word highFirst (headerFor (length p)))
+      below-append (wordBytes highFirst (headerFor (length p))) (p ++ replicate (paddingFor (length p)) 0)
+      (below-word highFirst (headerFor (length p)))
       (below-append p (replicate (paddingFor (length p)) 0) b (below-zeros (paddingFor (length p))))
 
   arrival-bytes : (configured : ℕ) → Below 256 p → Below 256 (arrivalRing configured p)
@@ -150,13 +175,16 @@ module _ (p : List ℕ) where
       let zeros = replicate {A = ℕ} configured 0 in
       let behind = drop (length (ringBytes p)) (turn 0 zeros) in
       turn-bytes (length zeros - 0) (ringBytes p ++ behind)
-      (below-append (ringBytes p) behind (ring-bytes b) (below-drop (length (ringBytes p)) (turn 0 zeros) (turn-bytes 0 zeros (below-zeros configured))))
+      (below-append (ringBytes p) behind (ring-bytes b)
+      (below-drop (length (ringBytes p)) (turn 0 zeros) (turn-bytes 0 zeros (below-zeros configured))))
 
   pub every-ring : (configured : ℕ) (flags : Flags) (out : List ℕ) → Below 256 p → packetSize 64 (length p) ≡ true
       → lengthRight configured ≡ true → mayRead (stateOf flags) ≡ true → 68 ≤ length out
       → Below 256 (arrivalRing configured p)
-      × (ringCarries 64 (arrivalRing configured p) configured flags 0 (wholeFor (length p)) out ≡ packet p (Next (wholeFor (length p))))
+      × (ringCarries 64 (arrivalRing configured p) configured flags 0 (wholeFor (length p)) out
+      ≡ packet p (Next (wholeFor (length p))))
   every-ring configured flags out b sized right may room = (
     arrival-bytes configured b,
-    ring-found 64 (arrivalRing configured p) configured flags 0 (wholeFor (length p)) p (wholeFor (length p)) out may (ring-round.arrival-base configured p out right sized room),
+    ring-found 64 (arrivalRing configured p) configured flags 0 (wholeFor (length p)) p (wholeFor (length p)) out may
+        (ring-round.arrival-base configured p out right sized room),
   )

@@ -25,14 +25,16 @@ use Rattle.demands.proofs.Arrivals.{smbus-found}
 
 -- the good frame's packet, given to the message rules
 pub literal-done : stepOf 64 card empty literalPacket .said ≡ done 0 1 false
-unfolding stepOf decided fromPacket fromSource setupRefusal packetRefusal sourceRefusal ruled onStart onFollow gathered after slotOf lowestFree firstOf headerOf keyOf sameKey rightState rightSlot rightNumbers multiple clash laid
+unfolding stepOf decided fromPacket fromSource setupRefusal packetRefusal sourceRefusal ruled onStart onFollow gathered
+    after slotOf lowestFree firstOf headerOf keyOf sameKey rightState rightSlot rightNumbers multiple clash laid
 literal-done = refl
 
 pub literal-carried : carries 64 (bySmbus literalFrame 32) ≡ packet literalPacket (Source 17)
 literal-carried = smbus-found 64 literalFrame 32 literalPacket 17 literal-good literal-packet literal-source
 
 pub literal-arrival : arrival 64 card empty (bySmbus literalFrame 32) .told ≡ given (Source 17) (done 0 1 false)
-literal-arrival = ap (λ (c : Carried). arrivedOf 64 card empty c .told) literal-carried ∙ ap (given (Source 17)) literal-done
+literal-arrival =
+    ap (λ (c : Carried). arrivedOf 64 card empty c .told) literal-carried ∙ ap (given (Source 17)) literal-done
 
 pub numbers : Numbers
 numbers =

@@ -20,12 +20,18 @@ use Rattle.ring.specs.Writing as putting
 use Rattle.ring.proofs.Readings.{set-up-holds}
 use Rattle.ring.proofs.RoundTrip.{written-length}
 
-pub cut-ring-right : (window : List ℕ) (c : Configuration) (part : Part) → isRing part ≡ true → outcomeOf window ≡ found c
+pub cut-ring-right : (window : List ℕ) (c : Configuration) (part : Part) → isRing part ≡ true
+    → outcomeOf window ≡ found c
     → setUpRight 64 (partPlace c part .length) (length (partOf window c part)) ≡ true
 cut-ring-right window c part is e =
     let cut = found-ring-cut window c part is e in
     set-up-holds 64 (partPlace c part .length) (length (partOf window c part))
-    (record { low = omega arith; high = omega arith; size = record { low = cut .1 .least; high = cut .1 .most; fours = cut .1 .aligned }; same = sym (cut .0) })
+    (record {
+      low = omega arith;
+      high = omega arith;
+      size = record { low = cut .1 .least; high = cut .1 .most; fours = cut .1 .aligned };
+      same = sym (cut .0);
+    })
 
 -- the window once a ring that was lent out of it, and written to, is back
 module _ (window : List ℕ) (c : Configuration) (part : Part) (is : isRing part ≡ true) (e : outcomeOf window ≡ found c)

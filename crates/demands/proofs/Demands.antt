@@ -1,4 +1,5 @@
--- The three demands of the racks, sentence by sentence, each a theorem over the definitions that the public contracts cite. 64 is the base's largest body.
+-- The three demands of the racks, sentence by sentence, each a theorem over the definitions that the public contracts
+-- cite. 64 is the base's largest body.
 -- Assumes nothing.
 use mathlib.Core.Path.{_≡_, refl, ap}
 use mathlib.Core.Bool.{Bool, true}
@@ -67,8 +68,9 @@ use Rattle.demands.proofs.Presented.{presented}
 -- DEMAND 1: NOTHING BREAKS IT
 --
 -- "Any bytes, pointers, lengths and stored state may be handed in.": no public call has a `requires`.
--- "Nothing outside the lent memory is touched, every call ends": the checker's own verdict on every function of every crate.
--- "and bad input gets the refusal that document 01 fixes": each contract is an equation, on every input, with a definition in its check order.
+-- "Nothing outside the lent memory is touched, every call ends": the checker's own verdict on every function of every
+-- crate. "and bad input gets the refusal that document 01 fixes": each contract is an equation, on every input, with a
+-- definition in its check order.
 
 -- "Lent memory is then unchanged, and so is the receiver": where the carrier refuses, skips or finds nothing
 pub without-a-packet : (r : Receiver) (m : List ℕ) (a : Arrival) (why : Without) → carries 64 a ≡ none why
@@ -76,13 +78,16 @@ pub without-a-packet : (r : Receiver) (m : List ℕ) (a : Arrival) (why : Withou
 without-a-packet r m a why e = good.none-leaves-all 64 r m a why e
 
 -- and where the message rules refuse, "but for the three refusals that free one slot (20, 21, 22)"
-pub refused-by-the-rules : (r : Receiver) (m : List ℕ) (a : Arrival) (known : Known) (n : ℕ) → arrival 64 r m a .told ≡ given known (refused n)
+pub refused-by-the-rules : (r : Receiver) (m : List ℕ) (a : Arrival) (known : Known) (n : ℕ)
+    → arrival 64 r m a .told ≡ given known (refused n)
     → (n ≡ 20 → ⊥) → (n ≡ 21 → ⊥) → (n ≡ 22 → ⊥) → Unchanged r m (arrival 64 r m a .receiver) (arrival 64 r m a .memory)
 refused-by-the-rules r m a known n = good.rules-refused 64 r m known n (carries 64 a)
 
 -- of which each frees the slot that has the packet's key, and no other, and leaves the memory
-pub refused-and-freed : (r : Receiver) (m p : List ℕ) (a : Arrival) (known : Known) (n : ℕ) → carries 64 a ≡ packet p known
-    → arrival 64 r m a .told ≡ given known (refused n) → 20 ≤ n → SlotFreed (keyOf p) r m (arrival 64 r m a .receiver) (arrival 64 r m a .memory)
+pub refused-and-freed : (r : Receiver) (m p : List ℕ) (a : Arrival) (known : Known) (n : ℕ)
+    → carries 64 a ≡ packet p known
+    → arrival 64 r m a .told ≡ given known (refused n) → 20 ≤ n
+    → SlotFreed (keyOf p) r m (arrival 64 r m a .receiver) (arrival 64 r m a .memory)
 refused-and-freed r m p a known n e = good.rules-freed 64 r m p known n (carries 64 a) e
 
 -- a packet given to the message rules directly: the same
@@ -99,16 +104,20 @@ given-and-freed = refused-freed 64
 pub not-freed : (r : Receiver) (i : ℕ) → (freedOf 64 r i .number ≡ 0 → ⊥) → freedOf 64 r i .receiver ≡ r
 not-freed = freed-refused 64
 
--- "and a ring packet that was already copied out": the output holds it at its front, and is unchanged where there is none
+-- "and a ring packet that was already copied out": the output holds it at its front, and is unchanged where there is
+-- none
 pub ring-output : (ring : List ℕ) (configured : ℕ) (flags : Flags) (read write : ℕ) (out : List ℕ)
-    → taking.readOf 64 ring configured (mayRead (stateOf flags)) read write out .output ≡ outputs.outputOf (ringCarries 64 ring configured flags read write out) out
+    → taking.readOf 64 ring configured (mayRead (stateOf flags)) read write out .output
+    ≡ outputs.outputOf (ringCarries 64 ring configured flags read write out) out
 ring-output = outputs.ring-output 64
 
 -- a ring cut out of a window by a configuration that was read from it never gets 1, in reading and in writing
-pub cut-ring-is-never-1 : (window : List ℕ) (c : Configuration) (part : Part) → isRing part ≡ true → outcomeOf window ≡ found c
+pub cut-ring-is-never-1 : (window : List ℕ) (c : Configuration) (part : Part) → isRing part ≡ true
+    → outcomeOf window ≡ found c
     → (readable running : Bool) (read write n : ℕ)
     → (taking.takenOf 64 (partOf window c part) (partPlace c part .length) readable read write n ≡ taking.refused 1 → ⊥)
-    × (putting.putOf 64 (length (partOf window c part)) (partPlace c part .length) running read write n ≡ putting.refused 1 → ⊥)
+    × (putting.putOf 64 (length (partOf window c part)) (partPlace c part .length) running read write n
+    ≡ putting.refused 1 → ⊥)
 cut-ring-is-never-1 window c part is e readable running read write n =
     let right = cut-ring-right window c part is e in (
       taken-not-1 64 (partOf window c part) (partPlace c part .length) readable read write n right,
@@ -134,11 +143,13 @@ pub pointer-not-stored : (window : List ℕ) (c : Configuration) (which : Pointe
 pointer-not-stored = pointer-refused
 
 -- a refused writer leaves what was lent to it
-pub frame-not-written : (out p : List ℕ) (destination source : ℕ) → (frames.writeRefusal 64 (length out) (length p) destination source ≡ 0 → ⊥)
+pub frame-not-written : (out p : List ℕ) (destination source : ℕ)
+    → (frames.writeRefusal 64 (length out) (length p) destination source ≡ 0 → ⊥)
     → frames.outputOf 64 out p destination source ≡ out
 frame-not-written out p destination source = output-unwritten 64 out p destination source
 
-pub region-not-written : (region : List ℕ) (id : ℕ) (notify : Bool) (p : List ℕ) → 1 ≤ regions.writeRefusal 64 (length region) id (length p)
+pub region-not-written : (region : List ℕ) (id : ℕ) (notify : Bool) (p : List ℕ)
+    → 1 ≤ regions.writeRefusal 64 (length region) id (length p)
     → regions.writtenOf 64 region id notify p ≡ region
 region-not-written region id notify p = written-refused region p id notify 64
 
@@ -149,7 +160,8 @@ ring-not-written ring configured running read write p n e = ap (λ (s : putting.
 
 -- DEMAND 2: THE LAYOUTS AND THE MESSAGE RULES
 --
--- "Frames read and frames written follow the DMTF layouts": a good frame is the layout of its packet, and so is a written one (`written-frame`).
+-- "Frames read and frames written follow the DMTF layouts": a good frame is the layout of its packet, and so is a
+-- written one (`written-frame`).
 pub good-frame-is-the-layout : (frame : List ℕ) (own : ℕ) (h : smbus.refusalOf 64 frame own ≡ 0)
     → frame ≡ frameOf own (smbus.sourceAddressOf 64 frame own) (smbus.packetOf 64 frame own)
 good-frame-is-the-layout = good.frame-layout 64
@@ -171,8 +183,8 @@ pub written-region-is-the-layout : (region : List ℕ) (id : ℕ) (notify : Bool
     → regions.writtenOf 64 region id notify p ≡ fronted region (regionOf id notify p)
 written-region-is-the-layout region id notify p = written-whole region p id notify 64
 
--- a packet taken out of a ring stands there from the read pointer on as Table 6 has it, with some reserved bits and some
--- padding of the right length; size and pointer are its own; and a written one has zeros there
+-- a packet taken out of a ring stands there from the read pointer on as Table 6 has it, with some reserved bits and
+-- some padding of the right length; size and pointer are its own; and a written one has zeros there
 pub good-ring-packet-is-the-layout : (ring : List ℕ) (configured : ℕ) (readable : Bool)
     (read write output size next : ℕ) → Below 256 ring
     → taking.takenOf 64 ring configured readable read write output ≡ taking.packet size next
@@ -187,11 +199,14 @@ pub written-ring-packet-is-the-layout : (ring : List ℕ) (configured : ℕ) (ru
 written-ring-packet-is-the-layout ring configured running read write p next e =
     ap (λ (s : putting.Said). putting.ringOf s ring write p) e
 
--- "and messages are put together by the MCTP rules": packets of one key with start first, sequences rising modulo 4, middles of the start's size, an end
--- no longer, are accepted whatever may stand between; held is the sum of the bodies so far, the message is the bodies joined
-pub messages-are-put-together : (r : Receiver) (m first : List ℕ) (items : List Item) (final : List ℕ) (t : Train 64 r m first items final)
+-- "and messages are put together by the MCTP rules": packets of one key with start first, sequences rising modulo 4,
+-- middles of the start's size, an end no longer, are accepted whatever may stand between; held is the sum of the bodies
+-- so far, the message is the bodies joined
+pub messages-are-put-together : (r : Receiver) (m first : List ℕ) (items : List Item) (final : List ℕ)
+    (t : Train 64 r m first items final)
     → Accepted r first items final (run 64 r m (give first ∷ (callsOf items ++ (give final ∷ []))))
-    (run 64 (stepOf 64 r m first .receiver) (stepOf 64 r m first .memory) (callsOf items)) (slotFor (r .slots) (keyOf first))
+    (run 64 (stepOf 64 r m first .receiver) (stepOf 64 r m first .memory) (callsOf items))
+    (slotFor (r .slots) (keyOf first))
 messages-are-put-together r m first items final t = acceptance 64 r m first items final t
 
 -- a message of one packet, with start and end, is done at once
@@ -201,19 +216,25 @@ pub a-message-of-one-packet : (r : Receiver) (m p : List ℕ) → rightState 64 
 a-message-of-one-packet = single-accepted 64
 
 -- "What is written reads back the same": "a frame at its destination address,"
-pub frame-reads-back : (out p : List ℕ) (destination source : ℕ) → frames.writeRefusal 64 (length out) (length p) destination source ≡ 0
-    → carries 64 (bySmbus (take (frames.frameSize (length p)) (frames.outputOf 64 out p destination source)) destination) ≡ packet p (Source source)
+pub frame-reads-back : (out p : List ℕ) (destination source : ℕ)
+    → frames.writeRefusal 64 (length out) (length p) destination source ≡ 0
+    → carries 64 (bySmbus (take (frames.frameSize (length p)) (frames.outputOf 64 out p destination source))
+    destination) ≡ packet p (Source source)
 frame-reads-back = good.frame-back 64
 
 -- "a region under the same id,"
-pub region-reads-back : (region : List ℕ) (id : ℕ) (notify : Bool) (p : List ℕ) → regions.writeRefusal 64 (length region) id (length p) ≡ 0
+pub region-reads-back : (region : List ℕ) (id : ℕ) (notify : Bool) (p : List ℕ)
+    → regions.writeRefusal 64 (length region) id (length p) ≡ 0
     → carries 64 (byPcc (regions.writtenOf 64 region id notify p) id) ≡ packet p (Notify notify)
 region-reads-back = good.region-back 64
 
 -- "a ring from the old write pointer."
-pub ring-reads-back : (ring : List ℕ) (configured : ℕ) (running : Bool) (read write : ℕ) (p : List ℕ) (next : ℕ) (flags : Flags) (out : List ℕ)
-    → putting.writeOf 64 ring configured running read write p .says ≡ putting.written next → mayRead (stateOf flags) ≡ true → 68 ≤ length out
-    → carries 64 (byRing (putting.writeOf 64 ring configured running read write p .ring) configured flags write next out) ≡ packet p (Next next)
+pub ring-reads-back : (ring : List ℕ) (configured : ℕ) (running : Bool) (read write : ℕ) (p : List ℕ) (next : ℕ)
+    (flags : Flags) (out : List ℕ)
+    → putting.writeOf 64 ring configured running read write p .says ≡ putting.written next
+    → mayRead (stateOf flags) ≡ true → 68 ≤ length out
+    → carries 64 (byRing (putting.writeOf 64 ring configured running read write p .ring) configured flags write next
+    out) ≡ packet p (Next next)
 ring-reads-back = good.ring-back 64
 
 -- "Don't drop what is already in the ring. .. Reading is now allowed in normal runtime and in both reset-asked states"
@@ -255,32 +276,39 @@ nothing-is-queued-while-a-reset-is-asked ring configured read write p right size
 
 -- DEMAND 3: THE PATH DOESN'T MATTER
 --
--- "Present a fresh receiver with any finite list of arrivals, good, bad or empty, on the three paths mixed at will. What the message rules answer to the
--- good arrivals, the messages, the end state and the message memory are those that demand 2's rules give to the bare packets of the good arrivals,
--- in that order, from the same starting memory."
-pub the-path-does-not-matter : (s : Setup) (m : List ℕ) (arrivals : List Arrival) → present 64 (fresh s) m arrivals ≡ runPackets 64 (fresh s) m (packetsOf 64 arrivals)
+-- "Present a fresh receiver with any finite list of arrivals, good, bad or empty, on the three paths mixed at will.
+-- What the message rules answer to the good arrivals, the messages, the end state and the message memory are those that
+-- demand 2's rules give to the bare packets of the good arrivals, in that order, from the same starting memory."
+pub the-path-does-not-matter : (s : Setup) (m : List ℕ) (arrivals : List Arrival)
+    → present 64 (fresh s) m arrivals ≡ runPackets 64 (fresh s) m (packetsOf 64 arrivals)
 the-path-does-not-matter s m arrivals = presented 64 arrivals (fresh s) m
 
 -- a fresh receiver isn't special: the same from any state and memory
-pub from-any-state : (r : Receiver) (m : List ℕ) (arrivals : List Arrival) → present 64 r m arrivals ≡ runPackets 64 r m (packetsOf 64 arrivals)
+pub from-any-state : (r : Receiver) (m : List ℕ) (arrivals : List Arrival)
+    → present 64 r m arrivals ≡ runPackets 64 r m (packetsOf 64 arrivals)
 from-any-state r m arrivals = presented 64 arrivals r m
 
 -- "Every packet of 5 to 68 bytes has a good arrival on each path.": a frame of bytes between any two addresses,
-pub every-packet-by-smbus : (p : List ℕ) (destination source : ℕ) → Below 256 p → packetSize 64 (length p) ≡ true → destination ≤ 127 → source ≤ 127
-    → Below 256 (frameOf destination source p) × (carries 64 (bySmbus (frameOf destination source p) destination) ≡ packet p (Source source))
+pub every-packet-by-smbus : (p : List ℕ) (destination source : ℕ) → Below 256 p → packetSize 64 (length p) ≡ true
+    → destination ≤ 127 → source ≤ 127
+    → Below 256 (frameOf destination source p)
+    × (carries 64 (bySmbus (frameOf destination source p) destination) ≡ packet p (Source source))
 every-packet-by-smbus p = good.every-frame p
 
 -- a region of bytes under any id,
-pub every-packet-by-pcc : (p : List ℕ) (id : ℕ) (notify : Bool) → Below 256 p → packetSize 64 (length p) ≡ true → id ≤ 255
+pub every-packet-by-pcc : (p : List ℕ) (id : ℕ) (notify : Bool) → Below 256 p → packetSize 64 (length p) ≡ true
+    → id ≤ 255
     → Below 256 (regionFor id notify p) × (carries 64 (byPcc (regionFor id notify p) id) ≡ packet p (Notify notify))
 every-packet-by-pcc p = good.every-region p
 
 -- and a ring of bytes of any right length. "Demand 3's good arrivals now include ring arrivals in these two states"
 -- (document 02, #104): in normal runtime (1010), and while the host (1011) or the controller (1110) asks for a reset
-pub every-packet-by-ring : (p : List ℕ) (configured : ℕ) (flags : Flags) (out : List ℕ) → Below 256 p → packetSize 64 (length p) ≡ true
+pub every-packet-by-ring : (p : List ℕ) (configured : ℕ) (flags : Flags) (out : List ℕ) → Below 256 p
+    → packetSize 64 (length p) ≡ true
     → lengthRight configured ≡ true → mayRead (stateOf flags) ≡ true → 68 ≤ length out
     → Below 256 (arrivalRing configured p)
-    × (carries 64 (byRing (arrivalRing configured p) configured flags 0 (wholeFor (length p)) out) ≡ packet p (Next (wholeFor (length p))))
+    × (carries 64 (byRing (arrivalRing configured p) configured flags 0 (wholeFor (length p)) out)
+    ≡ packet p (Next (wholeFor (length p))))
 every-packet-by-ring p = good.every-ring p
 
 -- of which three are for every packet: 128 bytes and an output of 68, in each of the three states
@@ -297,8 +325,10 @@ every-packet-by-a-ring p b sized =
     let controller = every-packet-by-ring p 128 askedByController (replicate 68 0) b sized refl refl (lit≤ tt) in
     (runs .0, rw (runs .1, host .1, controller .1))
 
--- "A good SMBus frame with one or more bits changed, all within eight neighbouring bits in wire order, is refused.": at every own address
-pub changed-frame-is-refused : (frame changed : List ℕ) → Below 256 frame → Below 256 changed → WindowChange frame changed
+-- "A good SMBus frame with one or more bits changed, all within eight neighbouring bits in wire order, is refused.": at
+-- every own address
+pub changed-frame-is-refused : (frame changed : List ℕ) → Below 256 frame → Below 256 changed
+    → WindowChange frame changed
     → (own : ℕ) → smbus.refusalOf 64 frame own ≡ 0 → (other : ℕ) → smbus.refusalOf 64 changed other ≡ 0 → ⊥
 changed-frame-is-refused frame changed b c w own e other = window-refused frame changed b c w 64 own e 64 other
 

@@ -23,7 +23,9 @@ by-answer (taking.skipped number next) s out = refl
 by-answer (taking.refused number) s out = refl
 
 pub ring-output : (most : ℕ) (ring : List ℕ) (configured : ℕ) (flags : Flags) (read write : ℕ) (out : List ℕ)
-    → taking.readOf most ring configured (mayRead (stateOf flags)) read write out .output ≡ outputOf (ringCarries most ring configured flags read write out) out
+    → taking.readOf most ring configured (mayRead (stateOf flags)) read write out .output
+    ≡ outputOf (ringCarries most ring configured flags read write out) out
 unfolding ringCarries
 ring-output most ring configured flags read write out =
-    by-answer (taking.takenOf most ring configured (mayRead (stateOf flags)) read write (length out)) (turn read ring) out
+    by-answer (taking.takenOf most ring configured (mayRead (stateOf flags)) read write (length out))
+    (turn read ring) out

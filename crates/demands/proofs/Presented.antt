@@ -13,11 +13,13 @@ use Rattle.demands.specs.Presenting.{ofArrival, present, packetIn, packe
 module _ (most : ℕ) where
   -- the rest leaves what a run of its packets leaves, from any state and memory
   abbrev Alike : List Arrival → Type 0
-  Alike arrivals = (r : Receiver) (m : List ℕ) → present most r m arrivals ≡ runPackets most r m (packetsOf most arrivals)
+  Alike arrivals =
+      (r : Receiver) (m : List ℕ) → present most r m arrivals ≡ runPackets most r m (packetsOf most arrivals)
 
   -- one arrival, whatever its carrier made of it, and then the rest
   then : (r : Receiver) (m : List ℕ) (c : Carried) (arrivals : List Arrival) → Alike arrivals
-      → joined (ofArrival (arrivedOf most r m c)) (present most (arrivedOf most r m c .receiver) (arrivedOf most r m c .memory) arrivals)
+      → joined (ofArrival (arrivedOf most r m c))
+      (present most (arrivedOf most r m c .receiver) (arrivedOf most r m c .memory) arrivals)
       ≡ runPackets most r m (packetIn c ++ packetsOf most arrivals)
   unfolding run
   then r m (packet p known) arrivals rest =

@@ -1,5 +1,5 @@
--- The useless builds of document 01 ("Shutting out empty work"), each shut out: a build with that behaviour that meets the contract's own equation is
--- a contradiction. A build is what a call leaves of every input.
+-- The useless builds of document 01 ("Shutting out empty work"), each shut out: a build with that behaviour that meets
+-- the contract's own equation is a contradiction. A build is what a call leaves of every input.
 -- Assumes nothing.
 use mathlib.Core.Path.{_≡_, refl, ap, sym, _∙_}
 use mathlib.Core.Bool.{Bool, true, false, false≢true}
@@ -40,8 +40,10 @@ one-counted : transcript.run start empty (literalFrame ∷ []) .state .packets �
 unfolding transcript.run frameOf oneMore
 one-counted = ap (λ (c : Carried). withPacket (arrivedOf 64 card empty c .told) 0) literal-carried
 
--- "One that refuses everything is shut out by 3's arrival on each path with 2's reading.": a good arrival is never answered with a refusal
-module _ (build : Receiver → List ℕ → Arrival → Left) (meets : (r : Receiver) (m : List ℕ) (a : Arrival) → build r m a ≡ arrival 64 r m a) where
+-- "One that refuses everything is shut out by 3's arrival on each path with 2's reading.": a good arrival is never
+-- answered with a refusal
+module _ (build : Receiver → List ℕ → Arrival → Left)
+    (meets : (r : Receiver) (m : List ℕ) (a : Arrival) → build r m a ≡ arrival 64 r m a) where
   not-both : (known : Known) (said : rules.Said) (why : Without) → given known said ≡ nothing why → ⊥
   not-both known said why e = let z : _≡_ {A = ℕ} 0 1 = cc in omega arith
 
@@ -50,7 +52,8 @@ module _ (build : Receiver → List ℕ → Arrival → Left) (meets : (r : Rece
   refuser a p known e refuses =
       let no = refuses card empty in
       not-both known (rules.stepOf 64 card empty p .said) (no .0)
-      (sym (ap (λ (l : Left). l .told) (meets card empty a) ∙ ap (λ (c : Carried). arrivedOf 64 card empty c .told) e) ∙ no .1)
+      (sym (ap (λ (l : Left). l .told) (meets card empty a) ∙ ap (λ (c : Carried). arrivedOf 64 card empty c .told) e)
+      ∙ no .1)
 
   abbrev Refuses : Arrival → Type 0
   Refuses a = (r : Receiver) (m : List ℕ) → (why : Without) × (build r m a .told ≡ nothing why)
@@ -76,7 +79,8 @@ module _ (build : Receiver → List ℕ → Arrival → Left) (meets : (r : Rece
       (all ring 128 0 (wholeFor 5) out)
 
 -- A build of the call that gives a packet to the message rules.
-module _ (build : Receiver → List ℕ → List ℕ → rules.Left) (meets : (r : Receiver) (m p : List ℕ) → build r m p ≡ rules.stepOf 64 r m p) where
+module _ (build : Receiver → List ℕ → List ℕ → rules.Left)
+    (meets : (r : Receiver) (m p : List ℕ) → build r m p ≡ rules.stepOf 64 r m p) where
   said : (r : Receiver) (m p : List ℕ) (s : rules.Said) → rules.stepOf 64 r m p .said ≡ s → build r m p .said ≡ s
   said r m p s e = ap (λ (l : rules.Left). l .said) (meets r m p) ∙ e
 
@@ -85,7 +89,8 @@ module _ (build : Receiver → List ℕ → List ℕ → rules.Left) (meets : (r
   begun = said card empty (packetWith 0x80 1 7) (rules.held 0 1 false) (steps .held-one)
 
   -- "One that answers "done, slot 0" to all is shut out by 2's message rules.": a start without end is held
-  pub done-to-all : ((r : Receiver) (m p : List ℕ) → (n : ℕ) × (again : Bool) × (build r m p .said ≡ rules.done 0 n again)) → ⊥
+  pub done-to-all : ((r : Receiver) (m p : List ℕ)
+      → (n : ℕ) × (again : Bool) × (build r m p .said ≡ rules.done 0 n again)) → ⊥
   done-to-all all =
       let claim = all card empty (packetWith 0x80 1 7) .2 in
       let rule = begun in
@@ -126,7 +131,9 @@ module _ (build : Receiver → List ℕ → List ℕ → rules.Left) (meets : (r
       omega arith
 
   -- "A made-up held .. count fails since held is the sum of the bodies"
-  pub one-held-count : (n : ℕ) → ((r : Receiver) (m p : List ℕ) (slot bytes : ℕ) (again : Bool) → build r m p .said ≡ rules.held slot bytes again → bytes ≡ n) → ⊥
+  pub one-held-count : (n : ℕ) →
+      ((r : Receiver) (m p : List ℕ) (slot bytes : ℕ) (again : Bool) → build r m p .said ≡ rules.held slot bytes again
+      → bytes ≡ n) → ⊥
   one-held-count n all =
       let one = all card empty (packetWith 0x80 1 7) 0 1 false begun in
       let two =

@@ -1,4 +1,5 @@
--- A list of arrivals presented to a receiver, on the three paths mixed at will, and the bare packets of the good ones (demand 3).
+-- A list of arrivals presented to a receiver, on the three paths mixed at will, and the bare packets of the good ones
+-- (demand 3).
 -- Assumes nothing.
 use Prim.Native.Nat.{ℕ}
 use mathlib.Core.List.{List, [], _∷_, _++_}
@@ -22,13 +23,21 @@ messagesIn (given known said) m = messagesOf said m
 messagesIn (nothing why) m = []
 
 abbrev pub ofArrival : Left → Ran
-ofArrival l = record { answers = answersIn (l .told); messages = messagesIn (l .told) (l .memory); receiver = l .receiver; memory = l .memory }
+ofArrival l =
+    record {
+      answers = answersIn (l .told);
+      messages = messagesIn (l .told) (l .memory);
+      receiver = l .receiver;
+      memory = l .memory;
+    }
 
--- "any finite list of arrivals, good, bad or empty, on the three paths mixed at will", each in the state and memory that the one before it left
+-- "any finite list of arrivals, good, bad or empty, on the three paths mixed at will", each in the state and memory
+-- that the one before it left
 unfoldable pub present : ℕ → Receiver → List ℕ → List Arrival → Ran
 present most r m [] = record { answers = []; messages = []; receiver = r; memory = m }
 present most r m (a ∷ arrivals) =
-    joined (ofArrival (arrival most r m a)) (present most (arrival most r m a .receiver) (arrival most r m a .memory) arrivals)
+    joined (ofArrival (arrival most r m a))
+    (present most (arrival most r m a .receiver) (arrival most r m a .memory) arrivals)
 
 abbrev pub packetIn : Carried → List (List ℕ)
 packetIn (packet p known) = p ∷ []

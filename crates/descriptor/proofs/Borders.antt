@@ -23,8 +23,8 @@ sized m n =
       rws = 2056;
     }
 
--- rings right behind the descriptor, a ring right behind the other, a ring at the last base that fits, structures at the
--- window's end, structures over each other and over the descriptor
+-- rings right behind the descriptor, a ring right behind the other, a ring at the last base that fits, structures at
+-- the window's end, structures over each other and over the descriptor
 pub right :
     map (allowed 4096)
     (based 64 520 1808 2056

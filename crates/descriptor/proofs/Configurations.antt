@@ -10,7 +10,8 @@ use Rattle.octets.proofs.Choice.{both, within-bounds, within-holds}
 use Rattle.descriptor.specs.declared.place.Place.{Place}
 use Rattle.descriptor.specs.declared.configuration.Configuration.{Configuration}
 use Rattle.descriptor.specs.Places.{liesIn, apart}
-use Rattle.descriptor.specs.Configuration.{descriptorPlace, structureAt, inside, clear, ringRight, onUnits, allowed, RingRight, Clear, OnUnits, Allowed}
+use Rattle.descriptor.specs.Configuration.{descriptorPlace, structureAt, inside, clear, ringRight, onUnits}
+use Rattle.descriptor.specs.Configuration.{allowed, RingRight, Clear, OnUnits, Allowed}
 use Rattle.descriptor.proofs.Places.{and, apart-fact, apart-holds, lies-fact, lies-holds}
 
 ring-facts : (ring : Place) → ringRight ring ≡ true → RingRight ring

@@ -22,7 +22,8 @@ pub says-injective : (a b : Configured) → says a ≡ says b → a ≡ b
 says-injective (Checked c) (Checked d) e = let same : c ≡ d = cc in ap Checked same
 says-injective (Checked c) (Refused r) e = let no : _≡_ {A = ℕ} 0 1 = cc in absurd (omega arith)
 says-injective (Refused r) (Checked d) e = let no : _≡_ {A = ℕ} 0 1 = cc in absurd (omega arith)
-says-injective (Refused r) (Refused t) e = let same : numberOf r ≡ numberOf t = cc in ap Refused (number-injective r t same)
+says-injective (Refused r) (Refused t) e =
+    let same : numberOf r ≡ numberOf t = cc in ap Refused (number-injective r t same)
 
 pub read-descriptor-determined : (κs : Lfts 1) (a : _) (r q : Configured) (e f : _)
     → read-descriptor.Post κs a r e → read-descriptor.Post κs a q f → r ≡ q

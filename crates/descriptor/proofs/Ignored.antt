@@ -15,12 +15,14 @@ module _ (a b : List ℕ) (w : Alike a b) where
   whole i e = omega (arith, w .bytes i, w .bytes-too i)
 
   word : (at : ℕ) → getD a at 0 % 256 ≡ getD b at 0 % 256 → getD a (at + 1) 0 % 256 ≡ getD b (at + 1) 0 % 256
-      → getD a (at + 2) 0 % 256 ≡ getD b (at + 2) 0 % 256 → getD a (at + 3) 0 % 256 ≡ getD b (at + 3) 0 % 256 → wordAt highFirst a at ≡ wordAt highFirst b at
+      → getD a (at + 2) 0 % 256 ≡ getD b (at + 2) 0 % 256 → getD a (at + 3) 0 % 256 ≡ getD b (at + 3) 0 % 256
+      → wordAt highFirst a at ≡ wordAt highFirst b at
   unfolding wordAt
   word at e0 e1 e2 e3 = rw (whole at e0, whole (at + 1) e1, whole (at + 2) e2, whole (at + 3) e3)
 
   base : (at : ℕ) → getD a at 0 % 32 ≡ getD b at 0 % 32 → getD a (at + 1) 0 % 256 ≡ getD b (at + 1) 0 % 256
-      → getD a (at + 2) 0 % 256 ≡ getD b (at + 2) 0 % 256 → getD a (at + 3) 0 % 256 ≡ getD b (at + 3) 0 % 256 → baseAt a at ≡ baseAt b at
+      → getD a (at + 2) 0 % 256 ≡ getD b (at + 2) 0 % 256 → getD a (at + 3) 0 % 256 ≡ getD b (at + 3) 0 % 256
+      → baseAt a at ≡ baseAt b at
   unfolding wordAt
   base at e0 e1 e2 e3 = rw (whole (at + 1) e1, whole (at + 2) e2, whole (at + 3) e3) (omega arith)
 
@@ -28,7 +30,14 @@ module _ (a b : List ℕ) (w : Alike a b) where
   unfolding configurationIn
   configurations =
       let e = w .same in
-      rw (base 8 (e 8) (e 9) (e 10) (e 11), base 12 (e 12) (e 13) (e 14) (e 15), word 16 (e 16) (e 17) (e 18) (e 19), word 20 (e 20) (e 21) (e 22) (e 23), base 32 (e 32) (e 33) (e 34) (e 35), base 36 (e 36) (e 37) (e 38) (e 39))
+      rw (
+        base 8 (e 8) (e 9) (e 10) (e 11),
+        base 12 (e 12) (e 13) (e 14) (e 15),
+        word 16 (e 16) (e 17) (e 18) (e 19),
+        word 20 (e 20) (e 21) (e 22) (e 23),
+        base 32 (e 32) (e 33) (e 34) (e 35),
+        base 36 (e 36) (e 37) (e 38) (e 39),
+      )
 
   signatures : signatureRight a ≡ signatureRight b
   unfolding signatureRight

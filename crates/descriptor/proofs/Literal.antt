@@ -36,7 +36,13 @@ abbrev pub windowImage : List ℕ
 windowImage = descriptorImage ++ (rosImage ++ (rwsImage ++ replicate 260 0))
 
 abbrev pub imageConfiguration : Configuration
-imageConfiguration = record { b2h = record { offset = 80; length = 128 }; h2b = record { offset = 208; length = 132 }; ros = 64; rws = 72 }
+imageConfiguration =
+    record {
+      b2h = record { offset = 80; length = 128 };
+      h2b = record { offset = 208; length = 132 };
+      ros = 64;
+      rws = 72;
+    }
 
 -- the whole descriptor image with its configuration
 pub image-found : outcomeOf windowImage ≡ found imageConfiguration
@@ -56,8 +62,8 @@ far-structure = refl
 
 -- Another, with no two places alike and every reserved bit set: version byte F1, byte 7 FE, the high three bits of each
 -- base, type byte F1, FF in bytes 25 to 31 and from 40 on. B2H at 8 · 0x102 = 2,064 with the length whose four bytes
--- are given, H2B at 8 · 0x41 = 520 with 0x508 = 1,288 bytes, Host_ROS right behind it at 8 · 0xE2 = 1,808, Host_RWS right
--- before B2H at 8 · 0x101 = 2,056.
+-- are given, H2B at 8 · 0x41 = 520 with 0x508 = 1,288 bytes, Host_ROS right behind it at 8 · 0xE2 = 1,808, Host_RWS
+-- right before B2H at 8 · 0x101 = 2,056.
 abbrev lengthened : ℕ → ℕ → ℕ → ℕ → List ℕ
 lengthened a b c d =
     35 ∷ 77 ∷ 77 ∷ 66 ∷ 73 ∷ 36 ∷ 0xF1 ∷ 0xFE

@@ -14,7 +14,8 @@ use Rattle.octets.specs.Choice.{pick}
 use Rattle.octets.proofs.Choice.{passed}
 use Rattle.descriptor.specs.declared.configuration.Configuration.{Configuration}
 use Rattle.descriptor.specs.Configuration.{allowed}
-use Rattle.descriptor.specs.Descriptor.{signatureRight, versionRight, typeRight, configurationIn, refusalOf, found, refused, outcomeOf, Good, FarBase}
+use Rattle.descriptor.specs.Descriptor.{signatureRight, versionRight, typeRight, configurationIn, refusalOf}
+use Rattle.descriptor.specs.Descriptor.{found, refused, outcomeOf, Good, FarBase}
 use Rattle.descriptor.proofs.Configurations.{allowed-facts, allowed-holds}
 
 -- past the signature there are three tests left
@@ -55,18 +56,22 @@ module _ (s : List ℕ) where
       unfolding refusalOf
       refusal-10-type v e = rw (le-ltb (length s) 64 long, signed, v, e)
 
-      pub refusal-10-places : versionRight s ≡ true → typeRight s ≡ true → allowed (length s) (configurationIn s) ≡ false → refusalOf s ≡ 10
+      pub refusal-10-places : versionRight s ≡ true → typeRight s ≡ true
+          → allowed (length s) (configurationIn s) ≡ false → refusalOf s ≡ 10
       unfolding refusalOf
       refusal-10-places v t e = rw (le-ltb (length s) 64 long, signed, v, t, e)
 
-      pub refusal-none : versionRight s ≡ true → typeRight s ≡ true → allowed (length s) (configurationIn s) ≡ true → refusalOf s ≡ 0
+      pub refusal-none : versionRight s ≡ true → typeRight s ≡ true → allowed (length s) (configurationIn s) ≡ true
+          → refusalOf s ≡ 0
       unfolding refusalOf
       refusal-none v t a = rw (le-ltb (length s) 64 long, signed, v, t, a)
 
       -- past the signature there is no third answer
       pub accepted-or-10 : (refusalOf s ≡ 0) ⊎ (refusalOf s ≡ 10)
       unfolding refusalOf
-      accepted-or-10 = rw (le-ltb (length s) 64 long, signed) (zero-or-10 (versionRight s) (typeRight s) (allowed (length s) (configurationIn s)))
+      accepted-or-10 =
+          rw (le-ltb (length s) 64 long, signed)
+          (zero-or-10 (versionRight s) (typeRight s) (allowed (length s) (configurationIn s)))
 
   -- a descriptor that is accepted has every one of the facts
   pub good : refusalOf s ≡ 0 → Good s
@@ -88,7 +93,8 @@ module _ (s : List ℕ) where
   -- and one that has them is accepted
   pub accepted : Good s → refusalOf s ≡ 0
   accepted g =
-      refusal-none (g .long) (g .signed) (eq-eqb _ 1 (g .version)) (eq-eqb _ 1 (g .kind)) (allowed-holds (length s) (configurationIn s) (g .places))
+      refusal-none (g .long) (g .signed) (eq-eqb _ 1 (g .version)) (eq-eqb _ 1 (g .kind))
+      (allowed-holds (length s) (configurationIn s) (g .places))
 
   -- what the answer is
   pub outcome-refused : (n : ℕ) → 1 ≤ n → refusalOf s ≡ n → outcomeOf s ≡ refused n
@@ -100,7 +106,8 @@ module _ (s : List ℕ) where
   outcome-found e = rw e
 
   -- "Base 2^29 − 1 .. In any window up to 4 GiB it is refused with 10.": of either ring
-  pub far-ring : 64 ≤ length s → length s ≤ 2 ^ 32 → signatureRight s ≡ true → FarBase s 8 ⊎ FarBase s 12 → refusalOf s ≡ 10
+  pub far-ring : 64 ≤ length s → length s ≤ 2 ^ 32 → signatureRight s ≡ true → FarBase s 8 ⊎ FarBase s 12
+      → refusalOf s ≡ 10
   far-ring long small signed far =
       ⊎-elim
       (λ (e : refusalOf s ≡ 0). absurd (never-far s small (good e) far))

@@ -3,7 +3,8 @@ use crate::place::Place;
 use crate::place::are_apart;
 use crate::place::lies_in;
 ghost use mathlib.Core.Path.{_≡_};
-ghost use Rattle.descriptor.specs.Configuration.{structureAt, descriptorPlace, partPlace, ringRight, inside, clear, onUnits, allowed};
+ghost use Rattle.descriptor.specs.Configuration.{structureAt, descriptorPlace, partPlace, ringRight, inside};
+ghost use Rattle.descriptor.specs.Configuration.{clear, onUnits, allowed};
 
 // B2H and H2B are the rings from the controller to the host and back; `ros` and `rws` are the offsets of Host_ROS and
 // Host_RWS.

@@ -4,7 +4,8 @@ use crate::configuration::is_allowed;
 use crate::place::Place;
 use mctp::Refusal;
 ghost use mathlib.Core.Path.{_≡_};
-ghost use Rattle.descriptor.specs.Descriptor.{signatureRight, versionRight, typeRight, baseAt, configurationIn, outcomeOf};
+ghost use Rattle.descriptor.specs.Descriptor.{signatureRight, versionRight, typeRight, baseAt, configurationIn};
+ghost use Rattle.descriptor.specs.Descriptor.{outcomeOf};
 ghost use Rattle.descriptor.specs.Answers.{says};
 
 pub enum Configured {

@@ -56,4 +56,5 @@ pub no-requires : ((κs : Lfts 0) (a : _) → is-null.Pre κs a)
     × ((κs : Lfts 1) (a : _) → header-of.Pre κs a)
     × ((κs : Lfts 0) (a : _) → same-key.Pre κs a)
     × ((κs : Lfts 0) (a : _) → number.Pre κs a)
-no-requires = ((λ κs a. tt), (λ κs a. tt), (λ κs a. tt), (λ κs a. tt), (λ κs a. tt), (λ κs a. tt), (λ κs a. tt), (λ κs a. tt))
+no-requires =
+    ((λ κs a. tt), (λ κs a. tt), (λ κs a. tt), (λ κs a. tt), (λ κs a. tt), (λ κs a. tt), (λ κs a. tt), (λ κs a. tt))

@@ -6,13 +6,18 @@ use Prim.Native.Nat.{ℕ, _≤_}
 use lib.Dec.{lit≤}
 use lib.ListN.{getD}
 use Rattle.mctp.specs.declared.refusal.Refusal.{Refusal}
-use Rattle.mctp.specs.declared.refusal.Refusal.the-variants.{Setup, Room, Size, Address, Command, Count, SourceBit, Pec, Signature, Descriptor, NotRunning, Pointer, BadPacket, OtherKind, Version, NotOurs, Source, NoSlot, NoStart, Sequence, Unit, TooLong}
+use Rattle.mctp.specs.declared.refusal.Refusal.the-variants.{Setup, Room, Size, Address, Command, Count}
+use Rattle.mctp.specs.declared.refusal.Refusal.the-variants.{SourceBit, Pec, Signature, Descriptor, NotRunning}
+use Rattle.mctp.specs.declared.refusal.Refusal.the-variants.{Pointer, BadPacket, OtherKind, Version, NotOurs}
+use Rattle.mctp.specs.declared.refusal.Refusal.the-variants.{Source, NoSlot, NoStart, Sequence, Unit, TooLong}
 use Rattle.mctp.specs.Refusals.{numberOf}
 
 -- the refusals in the order of their numbers; place 0 is not used
 byNumber : List Refusal
 byNumber =
-    Setup ∷ Setup ∷ Room ∷ Size ∷ Address ∷ Command ∷ Count ∷ SourceBit ∷ Pec ∷ Signature ∷ Descriptor ∷ NotRunning ∷ Pointer ∷ BadPacket ∷ OtherKind ∷ Version ∷ NotOurs ∷ Source ∷ NoSlot ∷ NoStart ∷ Sequence ∷ Unit ∷ TooLong ∷ []
+    Setup ∷ Setup ∷ Room ∷ Size ∷ Address ∷ Command ∷ Count ∷ SourceBit ∷ Pec ∷ Signature ∷ Descriptor ∷ NotRunning
+    ∷ Pointer ∷ BadPacket ∷ OtherKind ∷ Version ∷ NotOurs ∷ Source ∷ NoSlot ∷ NoStart ∷ Sequence ∷ Unit ∷ TooLong
+    ∷ []
 
 named : (r : Refusal) → getD byNumber (numberOf r) Setup ≡ r
 unfolding byNumber

@@ -17,6 +17,7 @@ broadcastEid e = eqb e 255
 abbrev pub reservedEid : ℕ → Bool
 reservedEid e = within 1 7 e
 
--- what one endpoint goes by: "own EID (0 or 8 to 254)", and a source that 17 lets through ("17: source is 1 to 7 or 255")
+-- what one endpoint goes by: "own EID (0 or 8 to 254)", and a source that 17 lets through ("17: source is 1 to 7 or
+-- 255")
 abbrev pub endpointEid : ℕ → Bool
 endpointEid e = not (reservedEid e) && not (broadcastEid e)

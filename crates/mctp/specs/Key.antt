@@ -11,7 +11,13 @@ use Rattle.mctp.specs.Packet.{versionOf, destinationOf, sourceOf, startO
 
 -- "a key (destination, source, tag owner, tag)"
 unfoldable pub keyOf : List ℕ → Key
-keyOf p = record { destination = record { 0 = destinationOf p }; source = record { 0 = sourceOf p }; owner = ownerOf p; tag = tagOf p }
+keyOf p =
+    record {
+      destination = record { 0 = destinationOf p };
+      source = record { 0 = sourceOf p };
+      owner = ownerOf p;
+      tag = tagOf p;
+    }
 
 -- the whole header of a packet
 unfoldable pub headerOf : List ℕ → Header
@@ -19,4 +25,6 @@ headerOf p = record { version = versionOf p; start = startOf p; end = endOf p; s
 
 -- two keys are one: all four parts are
 unfoldable pub sameKey : Key → Key → Bool
-sameKey a b = eqb (a .destination .0) (b .destination .0) && eqb (a .source .0) (b .source .0) && Bool·beq (a .owner) (b .owner) && eqb (a .tag) (b .tag)
+sameKey a b =
+    eqb (a .destination .0) (b .destination .0) && eqb (a .source .0) (b .source .0) && Bool·beq (a .owner) (b .owner)
+    && eqb (a .tag) (b .tag)

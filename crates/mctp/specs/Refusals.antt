@@ -2,7 +2,10 @@
 -- Assumes nothing.
 use Prim.Native.Nat.{ℕ}
 use Rattle.mctp.specs.declared.refusal.Refusal.{Refusal}
-use Rattle.mctp.specs.declared.refusal.Refusal.the-variants.{Setup, Room, Size, Address, Command, Count, SourceBit, Pec, Signature, Descriptor, NotRunning, Pointer, BadPacket, OtherKind, Version, NotOurs, Source, NoSlot, NoStart, Sequence, Unit, TooLong}
+use Rattle.mctp.specs.declared.refusal.Refusal.the-variants.{Setup, Room, Size, Address, Command, Count}
+use Rattle.mctp.specs.declared.refusal.Refusal.the-variants.{SourceBit, Pec, Signature, Descriptor, NotRunning}
+use Rattle.mctp.specs.declared.refusal.Refusal.the-variants.{Pointer, BadPacket, OtherKind, Version, NotOurs}
+use Rattle.mctp.specs.declared.refusal.Refusal.the-variants.{Source, NoSlot, NoStart, Sequence, Unit, TooLong}
 
 -- "Refusal numbers": the table, line by line
 abbrev pub numberOf : Refusal → ℕ

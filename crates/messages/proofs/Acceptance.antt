@@ -1,4 +1,5 @@
--- Acceptance: every list of packets that make a message is accepted, whatever may stand between them, and gives that message.
+-- Acceptance: every list of packets that make a message is accepted, whatever may stand between them, and gives that
+-- message.
 -- Assumes nothing.
 use mathlib.Core.Path.{_≡_, refl, ap, sym, subst, _∙_}
 use mathlib.Core.Bool.{true, false}
@@ -25,33 +26,42 @@ use Rattle.decision.proofs.Picked.{pick-elim}
 use Rattle.receiver.specs.Step.{Said, done, Left, stepOf}
 use Rattle.receiver.proofs.Laws.{one-slot}
 use Rattle.messages.specs.Run.{Call, give, free, rules, message, messagesOf, Ran, called, joined, run}
-use Rattle.messages.specs.Message.{Item, part, between, callsOf, bodiesOf, lastOf, partReplies, heldReplies, slotFor, Starts, Follows, Middles, Train, Accepted, AcceptedAlone}
+use Rattle.messages.specs.Message.{Item, part, between, callsOf, bodiesOf, lastOf, partReplies, heldReplies}
+use Rattle.messages.specs.Message.{slotFor, Starts, Follows, Middles, Train, Accepted, AcceptedAlone}
 use Rattle.messages.proofs.Runs.{run-append, called-one-slot}
-use Rattle.messages.proofs.Gathering.{Gathers, middle-step, middle-gathers, end-step, end-message, between-gathers, start-held, start-done, start-message, start-gathers}
+use Rattle.messages.proofs.Gathering.{Gathers, middle-step, middle-gathers, end-step, end-message}
+use Rattle.messages.proofs.Gathering.{between-gathers, start-held, start-done, start-message, start-gathers}
 
 -- the set-up stays
-pub run-setup : (most : ℕ) (r : Receiver) (m : List ℕ) (calls : List Call) → run most r m calls .receiver .setup ≡ r .setup
+pub run-setup : (most : ℕ) (r : Receiver) (m : List ℕ) (calls : List Call)
+    → run most r m calls .receiver .setup ≡ r .setup
 unfolding run
 run-setup most r m [] = refl
-run-setup most r m (c ∷ calls) = run-setup most (called most r m c .receiver) (called most r m c .memory) calls ∙ called-one-slot most r m c .setup
+run-setup most r m (c ∷ calls) =
+    run-setup most (called most r m c .receiver) (called most r m c .memory) calls ∙ called-one-slot most r m c .setup
 
 module _ (most : ℕ) (k : Key) (i unit : ℕ) where
   -- middles, with what stands between: the bytes grow by the bodies, in order
-  pub middles-gather : (r : Receiver) (m : List ℕ) (last : ℕ) (sofar : List ℕ) (items : List Item) → Gathers most r m k i last unit sofar
+  pub middles-gather : (r : Receiver) (m : List ℕ) (last : ℕ) (sofar : List ℕ) (items : List Item)
+      → Gathers most r m k i last unit sofar
       → Middles most k i r m last unit (length sofar) items
-      → Gathers most (run most r m (callsOf items) .receiver) (run most r m (callsOf items) .memory) k i (lastOf last items) unit (sofar ++ bodiesOf items)
+      → Gathers most (run most r m (callsOf items) .receiver) (run most r m (callsOf items) .memory) k i
+      (lastOf last items) unit (sofar ++ bodiesOf items)
   unfolding run Middles
   middles-gather r m last sofar [] G M = rw append-nil G
   middles-gather r m last sofar (part p ∷ items) G M =
       let grown = middle-gathers most r m k i last unit sofar G p (M .0) (M .1) in
       let rest = rw (sym (length-append sofar (bodyOf p))) at (M .2) in
       rw (sym (append-assoc sofar (bodyOf p) (bodiesOf items)))
-      (middles-gather (called most r m (give p) .receiver) (called most r m (give p) .memory) (sequenceOf p) (sofar ++ bodyOf p) items grown rest)
+      (middles-gather (called most r m (give p) .receiver) (called most r m (give p) .memory) (sequenceOf p)
+      (sofar ++ bodyOf p) items grown rest)
   middles-gather r m last sofar (between c ∷ items) G M =
-      middles-gather (called most r m c .receiver) (called most r m c .memory) last sofar items (between-gathers most r m k i last unit sofar G c (M .0)) (M .1)
+      middles-gather (called most r m c .receiver) (called most r m c .memory) last sofar items
+      (between-gathers most r m k i last unit sofar G c (M .0)) (M .1)
 
   -- and each is answered: held, with the sum of the bodies so far
-  pub middles-held : (r : Receiver) (m : List ℕ) (last : ℕ) (sofar : List ℕ) (items : List Item) → Gathers most r m k i last unit sofar
+  pub middles-held : (r : Receiver) (m : List ℕ) (last : ℕ) (sofar : List ℕ) (items : List Item)
+      → Gathers most r m k i last unit sofar
       → Middles most k i r m last unit (length sofar) items
       → partReplies items (run most r m (callsOf items) .answers) ≡ heldReplies i (length sofar) items
   unfolding run Middles
@@ -60,14 +70,19 @@ module _ (most : ℕ) (k : Key) (i unit : ℕ) where
       let grown = middle-gathers most r m k i last unit sofar G p (M .0) (M .1) in
       let rest = rw (sym (length-append sofar (bodyOf p))) at (M .2) in
       let said = ap (λ (l : Left). rules (l .said)) (middle-step most r m k i last unit sofar G p (M .0) (M .1)) in
-      let then = middles-held (called most r m (give p) .receiver) (called most r m (give p) .memory) (sequenceOf p) (sofar ++ bodyOf p) items grown rest ∙ ap (λ (n : ℕ). heldReplies i n items) (length-append sofar (bodyOf p)) in
+      let then = middles-held (called most r m (give p) .receiver) (called most r m (give p) .memory) (sequenceOf p)
+      (sofar ++ bodyOf p) items grown rest
+      ∙ ap (λ (n : ℕ). heldReplies i n items) (length-append sofar (bodyOf p)) in
       λ j. said j ∷ then j
   middles-held r m last sofar (between (give p) ∷ items) G M =
-      middles-held (called most r m (give p) .receiver) (called most r m (give p) .memory) last sofar items (between-gathers most r m k i last unit sofar G (give p) (M .0)) (M .1)
+      middles-held (called most r m (give p) .receiver) (called most r m (give p) .memory) last sofar items
+      (between-gathers most r m k i last unit sofar G (give p) (M .0)) (M .1)
   middles-held r m last sofar (between (free j) ∷ items) G M =
-      middles-held (called most r m (free j) .receiver) (called most r m (free j) .memory) last sofar items (between-gathers most r m k i last unit sofar G (free j) (M .0)) (M .1)
+      middles-held (called most r m (free j) .receiver) (called most r m (free j) .memory) last sofar items
+      (between-gathers most r m k i last unit sofar G (free j) (M .0)) (M .1)
 
-module _ (most : ℕ) (r : Receiver) (m first : List ℕ) (items : List Item) (final : List ℕ) (T : Train most r m first items final) where
+module _ (most : ℕ) (r : Receiver) (m first : List ℕ) (items : List Item) (final : List ℕ)
+    (T : Train most r m first items final) where
   -- the slot, the state after the first packet, and what the middles leave
   abbrev i : ℕ
   i = slotFor (r .slots) (keyOf first)
@@ -81,16 +96,22 @@ module _ (most : ℕ) (r : Receiver) (m first : List ℕ) (items : List Item) (f
   abbrev ended : Left
   ended = stepOf most (middle .receiver) (middle .memory) final
 
-  begins : Gathers most (begun .receiver) (begun .memory) (keyOf first) i (sequenceOf first) (length (bodyOf first)) (bodyOf first)
+  begins : Gathers most (begun .receiver) (begun .memory) (keyOf first) i (sequenceOf first) (length (bodyOf first))
+      (bodyOf first)
   begins = start-gathers most r m first (T .state) (T .memory) (T .starts) (T .room) (T .more)
 
-  gathered : Gathers most (middle .receiver) (middle .memory) (keyOf first) i (lastOf (sequenceOf first) items) (length (bodyOf first)) (bodyOf first ++ bodiesOf items)
-  gathered = middles-gather most (keyOf first) i (length (bodyOf first)) (begun .receiver) (begun .memory) (sequenceOf first) (bodyOf first) items begins (T .middles)
+  gathered : Gathers most (middle .receiver) (middle .memory) (keyOf first) i (lastOf (sequenceOf first) items)
+      (length (bodyOf first)) (bodyOf first ++ bodiesOf items)
+  gathered =
+      middles-gather most (keyOf first) i (length (bodyOf first)) (begun .receiver) (begun .memory) (sequenceOf first)
+      (bodyOf first) items begins (T .middles)
 
-  follows : Follows most (middle .receiver .setup) (keyOf first) (lastOf (sequenceOf first) items) (length (bodyOf first)) (length (bodyOf first ++ bodiesOf items)) final
+  follows : Follows most (middle .receiver .setup) (keyOf first) (lastOf (sequenceOf first) items)
+      (length (bodyOf first)) (length (bodyOf first ++ bodiesOf items)) final
   follows =
       let same = run-setup most (begun .receiver) (begun .memory) (callsOf items) ∙ one-slot most r m first .setup in
-      subst (λ (s : Setup). Follows most s (keyOf first) (lastOf (sequenceOf first) items) (length (bodyOf first)) (length (bodyOf first ++ bodiesOf items)) final) (sym same) (T .follows)
+      subst (λ (s : Setup). Follows most s (keyOf first) (lastOf (sequenceOf first) items) (length (bodyOf first))
+      (length (bodyOf first ++ bodiesOf items)) final) (sym same) (T .follows)
 
   last-step : ended
       ≡ record {
@@ -100,30 +121,44 @@ module _ (most : ℕ) (r : Receiver) (m first : List ℕ) (items : List Item) (f
       }
   last-step = end-step most (middle .receiver) (middle .memory) (keyOf first) i _ _ _ gathered final follows (T .ends)
 
-  joined-message : message (ended .memory) i (length (bodyOf first ++ bodiesOf items) + length (bodyOf final)) ≡ (bodyOf first ++ bodiesOf items) ++ bodyOf final
-  joined-message = end-message most (middle .receiver) (middle .memory) (keyOf first) i _ _ _ gathered final follows (T .ends)
+  joined-message : message (ended .memory) i (length (bodyOf first ++ bodiesOf items) + length (bodyOf final))
+      ≡ (bodyOf first ++ bodiesOf items) ++ bodyOf final
+  joined-message =
+      end-message most (middle .receiver) (middle .memory) (keyOf first) i _ _ _ gathered final follows (T .ends)
 
   -- first, middles, last
   whole : run most r m (give first ∷ (callsOf items ++ (give final ∷ [])))
-      ≡ joined (called most r m (give first)) (joined middle (run most (middle .receiver) (middle .memory) (give final ∷ [])))
+      ≡ joined (called most r m (give first))
+      (joined middle (run most (middle .receiver) (middle .memory) (give final ∷ [])))
   unfolding run
-  whole = ap (joined (called most r m (give first))) (run-append most (begun .receiver) (begun .memory) (callsOf items) (give final ∷ []))
+  whole =
+      ap (joined (called most r m (give first)))
+      (run-append most (begun .receiver) (begun .memory) (callsOf items) (give final ∷ []))
 
-  pub acceptance : Accepted r first items final (run most r m (give first ∷ (callsOf items ++ (give final ∷ [])))) middle i
+  pub acceptance : Accepted r first items final
+      (run most r m (give first ∷ (callsOf items ++ (give final ∷ [])))) middle i
   unfolding run
   acceptance =
       let start = start-held most r m first (T .state) (T .memory) (T .starts) (T .room) (T .more) in
       let first-said = ap (λ (l : Left). rules (l .said)) start in
       let last-said = ap (λ (l : Left). rules (l .said)) last-step in
-      let none : messagesOf (begun .said) (begun .memory) ≡ [] = ap (λ (l : Left). messagesOf (l .said) (l .memory)) start in
+      let none : messagesOf (begun .said) (begun .memory) ≡ [] =
+      ap (λ (l : Left). messagesOf (l .said) (l .memory)) start in
       let one : messagesOf (ended .said) (ended .memory) ≡ ((bodyOf first ++ bodiesOf items) ++ bodyOf final) ∷ []
-      = ap (λ (s : Said). messagesOf s (ended .memory)) (ap (λ (l : Left). l .said) last-step) ∙ ap (λ (b : List ℕ). b ∷ []) joined-message in
+      =
+      ap (λ (s : Said). messagesOf s (ended .memory)) (ap (λ (l : Left). l .said) last-step)
+      ∙ ap (λ (b : List ℕ). b ∷ []) joined-message in
       record {
         answers = ap (λ (w : Ran). w .answers) whole ∙ (λ j. first-said j ∷ (middle .answers ++ (last-said j ∷ [])));
-        held-so-far = middles-held most (keyOf first) i (length (bodyOf first)) (begun .receiver) (begun .memory) (sequenceOf first) (bodyOf first) items begins (T .middles);
+        held-so-far =
+            middles-held most (keyOf first) i (length (bodyOf first)) (begun .receiver) (begun .memory)
+            (sequenceOf first) (bodyOf first) items begins (T .middles);
         messages = ap (λ (w : Ran). w .messages) whole ∙ (λ j. none j ++ (middle .messages ++ (one j ++ [])));
-        slot-free = ap (λ (w : Ran). slotAt (w .receiver .slots) i) whole ∙ ap (λ (l : Left). slotAt (l .receiver .slots) i) last-step
-            ∙ slot-same (middle .receiver .slots) i Free (omega (arith, gathered .slot, right-of most (middle .receiver) (gathered .right) .four));
+        slot-free =
+            ap (λ (w : Ran). slotAt (w .receiver .slots) i) whole
+            ∙ ap (λ (l : Left). slotAt (l .receiver .slots) i) last-step
+            ∙ slot-same (middle .receiver .slots) i Free
+            (omega (arith, gathered .slot, right-of most (middle .receiver) (gathered .right) .four));
       }
 
 -- a message of one packet: done at once, with its body, and the slot is free
@@ -146,7 +181,8 @@ single-accepted most r m p e n room s last =
     }
 
 -- there is room for a key that has a slot, and where a slot is free
-pub room-of-key : (most : ℕ) (r : Receiver) (k : Key) (i : ℕ) → rightState most r ≡ true → i < 4 → hasKey k (slotAt (r .slots) i) ≡ true → slotFor (r .slots) k ≡ i
+pub room-of-key : (most : ℕ) (r : Receiver) (k : Key) (i : ℕ) → rightState most r ≡ true → i < 4
+    → hasKey k (slotAt (r .slots) i) ≡ true → slotFor (r .slots) k ≡ i
 unfolding slotFor
 room-of-key most r k i e h has =
     let at = slot-of-is most r (right-of most r e) k i h has in

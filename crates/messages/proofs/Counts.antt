@@ -24,43 +24,60 @@ empty = replicate 4096 0
 -- "bodies 64, 64, 2 with flags BD, 0D, 5D make a message of 130"
 pub three-bodies : runPackets 64 card empty (packet 0xBD 64 1 ∷ packet 0x0D 64 2 ∷ packet 0x5D 2 3 ∷ []) .answers
     ≡ rules (held 0 64 false) ∷ rules (held 0 128 false) ∷ rules (done 0 130 false) ∷ []
-unfolding run stepOf decided fromPacket fromSource setupRefusal packetRefusal sourceRefusal ruled onStart onFollow gathered after slotOf lowestFree firstOf headerOf keyOf sameKey rightState rightSlot rightNumbers multiple clash laid
+unfolding run stepOf decided fromPacket fromSource setupRefusal packetRefusal sourceRefusal ruled onStart onFollow
+    gathered after slotOf lowestFree firstOf headerOf keyOf sameKey rightState rightSlot rightNumbers multiple clash
+    laid
 three-bodies = refl
 
-pub three-bodies-message : runPackets 64 card empty (packet 0xBD 64 1 ∷ packet 0x0D 64 2 ∷ packet 0x5D 2 3 ∷ []) .messages ≡ (replicate 64 1 ++ replicate 64 2 ++ replicate 2 3) ∷ []
-unfolding run stepOf decided fromPacket fromSource setupRefusal packetRefusal sourceRefusal ruled onStart onFollow gathered after slotOf lowestFree firstOf headerOf keyOf sameKey rightState rightSlot rightNumbers multiple clash laid
+pub three-bodies-message : runPackets 64 card empty
+    (packet 0xBD 64 1 ∷ packet 0x0D 64 2 ∷ packet 0x5D 2 3 ∷ []) .messages
+    ≡ (replicate 64 1 ++ replicate 64 2 ++ replicate 2 3) ∷ []
+unfolding run stepOf decided fromPacket fromSource setupRefusal packetRefusal sourceRefusal ruled onStart onFollow
+    gathered after slotOf lowestFree firstOf headerOf keyOf sameKey rightState rightSlot rightNumbers multiple clash
+    laid
 three-bodies-message = refl
 
 -- "1,024 bytes held, then one more": 22, and the slot is free; up to 1,024 is held
-pub one-more : stepOf 64 (with-slots (gathering 5 1024) (gathering 6 64) (gathering 7 64) (gathering 4 64)) empty (packet 0x5D 1 7)
+pub one-more : stepOf 64 (with-slots (gathering 5 1024) (gathering 6 64) (gathering 7 64) (gathering 4 64)) empty
+    (packet 0x5D 1 7)
     ≡ record {
       said = refused 22;
       receiver = with-slots freeSlot (gathering 6 64) (gathering 7 64) (gathering 4 64);
       memory = empty;
     }
-unfolding stepOf decided fromPacket fromSource setupRefusal packetRefusal sourceRefusal ruled onStart onFollow gathered after slotOf lowestFree firstOf headerOf keyOf sameKey rightState rightSlot rightNumbers multiple clash laid
+unfolding stepOf decided fromPacket fromSource setupRefusal packetRefusal sourceRefusal ruled onStart onFollow gathered
+    after slotOf lowestFree firstOf headerOf keyOf sameKey rightState rightSlot rightNumbers multiple clash laid
 one-more = refl
 
-pub up-to-the-end : stepOf 64 (with-slots (gathering 5 960) (gathering 6 64) (gathering 7 64) (gathering 4 64)) empty (packet 0x5D 64 7) .said ≡ done 0 1024 false
-unfolding stepOf decided fromPacket fromSource setupRefusal packetRefusal sourceRefusal ruled onStart onFollow gathered after slotOf lowestFree firstOf headerOf keyOf sameKey rightState rightSlot rightNumbers multiple clash laid
+pub up-to-the-end : stepOf 64 (with-slots (gathering 5 960) (gathering 6 64) (gathering 7 64) (gathering 4 64)) empty
+    (packet 0x5D 64 7) .said ≡ done 0 1024 false
+unfolding stepOf decided fromPacket fromSource setupRefusal packetRefusal sourceRefusal ruled onStart onFollow gathered
+    after slotOf lowestFree firstOf headerOf keyOf sameKey rightState rightSlot rightNumbers multiple clash laid
 up-to-the-end = refl
 
 -- "Fifth key: 18; after a slot is freed it is taken."
-pub fifth-key : run 64 (with-slots (gathering 4 64) (gathering 5 64) (gathering 6 64) (gathering 7 64)) empty (give (packet 0x88 1 7) ∷ free 2 ∷ give (packet 0x88 1 7) ∷ []) .answers
+pub fifth-key : run 64 (with-slots (gathering 4 64) (gathering 5 64) (gathering 6 64) (gathering 7 64)) empty
+    (give (packet 0x88 1 7) ∷ free 2 ∷ give (packet 0x88 1 7) ∷ []) .answers
     ≡ rules (refused 18) ∷ freed 0 ∷ rules (held 2 1 false) ∷ []
-unfolding run stepOf freedOf decided fromPacket fromSource setupRefusal packetRefusal sourceRefusal ruled onStart onFollow gathered after slotOf lowestFree firstOf headerOf keyOf sameKey rightState rightSlot rightNumbers multiple clash laid
+unfolding run stepOf freedOf decided fromPacket fromSource setupRefusal packetRefusal sourceRefusal ruled onStart
+    onFollow gathered after slotOf lowestFree firstOf headerOf keyOf sameKey rightState rightSlot rightNumbers multiple
+    clash laid
 fifth-key = refl
 
 -- "A sequence that must begin at 0. Any first number is right."
 pub any-first-sequence : map (λ (q : ℕ). stepOf 64 card empty (packet (0x80 + 16 * q) 1 7) .said) (0 ∷ 1 ∷ 2 ∷ 3 ∷ [])
     ≡ held 0 1 false ∷ held 0 1 false ∷ held 0 1 false ∷ held 0 1 false ∷ []
-unfolding stepOf decided fromPacket fromSource setupRefusal packetRefusal sourceRefusal ruled onStart onFollow gathered after slotOf lowestFree firstOf headerOf keyOf sameKey rightState rightSlot rightNumbers multiple clash laid
+unfolding stepOf decided fromPacket fromSource setupRefusal packetRefusal sourceRefusal ruled onStart onFollow gathered
+    after slotOf lowestFree firstOf headerOf keyOf sameKey rightState rightSlot rightNumbers multiple clash laid
 any-first-sequence = refl
 
 -- a restart says "again", and a message of one packet is done at once
-pub restart-says-again : runPackets 64 card empty (packet 0x80 1 7 ∷ packet 0x80 2 7 ∷ packet 0xC0 3 7 ∷ packet 0xC0 4 7 ∷ []) .answers
+pub restart-says-again : runPackets 64 card empty
+    (packet 0x80 1 7 ∷ packet 0x80 2 7 ∷ packet 0xC0 3 7 ∷ packet 0xC0 4 7 ∷ []) .answers
     ≡ rules (held 0 1 false) ∷ rules (held 0 2 true) ∷ rules (done 0 3 true) ∷ rules (done 0 4 false) ∷ []
-unfolding run stepOf decided fromPacket fromSource setupRefusal packetRefusal sourceRefusal ruled onStart onFollow gathered after slotOf lowestFree firstOf headerOf keyOf sameKey rightState rightSlot rightNumbers multiple clash laid
+unfolding run stepOf decided fromPacket fromSource setupRefusal packetRefusal sourceRefusal ruled onStart onFollow
+    gathered after slotOf lowestFree firstOf headerOf keyOf sameKey rightState rightSlot rightNumbers multiple clash
+    laid
 restart-says-again = refl
 
 -- "1,024 for each slot": a message of two packets in the fourth slot lies behind 3,072 bytes, one body behind the other
@@ -72,6 +89,7 @@ pub fourth-slot : runPackets 64 (with-slots (gathering 4 64) (gathering 5 64) (g
       receiver = with-slots (gathering 4 64) (gathering 5 64) (gathering 6 64) freeSlot;
       memory = replicate 3072 0 ++ (7 ∷ 7 ∷ 8 ∷ replicate 1021 0);
     }
-unfolding run stepOf decided fromPacket fromSource setupRefusal packetRefusal sourceRefusal ruled onStart onFollow gathered
+unfolding run stepOf decided fromPacket fromSource setupRefusal packetRefusal sourceRefusal ruled onStart onFollow
+    gathered
     after slotOf lowestFree firstOf headerOf keyOf sameKey rightState rightSlot rightNumbers multiple clash laid
 fourth-slot = refl

@@ -1,4 +1,5 @@
--- A message being gathered: a start begins it, each middle grows it, an end finishes it, and what stands between leaves it.
+-- A message being gathered: a start begins it, each middle grows it, an end finishes it, and what stands between leaves
+-- it.
 -- Assumes nothing.
 use mathlib.Core.Path.{_≡_, refl, ap, sym, _∙_}
 use mathlib.Core.Bool.{Bool, true, false, _||_, true≢false}
@@ -48,18 +49,21 @@ pub record Gathers (most : ℕ) (r : Receiver) (m : List ℕ) (k : Key) (i last 
   pub bytes : message m i (length sofar) ≡ sofar
 
 -- neither 1 nor 2
-setup-passes : (most : ℕ) (r : Receiver) (m : List ℕ) → rightState most r ≡ true → length m ≡ 4096 → setupRefusal most r (length m) ≡ 0
+setup-passes : (most : ℕ) (r : Receiver) (m : List ℕ) → rightState most r ≡ true → length m ≡ 4096
+    → setupRefusal most r (length m) ≡ 0
 unfolding setupRefusal
 setup-passes most r m e n = rw (e, eq-eqb (length m) 4096 n)
 
 -- a packet that no check refuses is decided on by the rules
-decided-rules : (most : ℕ) (r : Receiver) (size : ℕ) (p : List ℕ) → setupRefusal most r size ≡ 0 → packetRefusal most (r .setup) p ≡ 0 → sourceRefusal p ≡ 0
+decided-rules : (most : ℕ) (r : Receiver) (size : ℕ) (p : List ℕ) → setupRefusal most r size ≡ 0
+    → packetRefusal most (r .setup) p ≡ 0 → sourceRefusal p ≡ 0
     → decided most r size p ≡ ruled (r .slots) (headerOf p) (length (bodyOf p))
 unfolding decided fromPacket fromSource
 decided-rules most r size p a b c = unless-good _ _ a ∙ unless-good _ _ b ∙ unless-good _ _ c
 
 -- the slot after a packet without end, and with it
-after-middle : (p : List ℕ) (unit n : ℕ) → endOf p ≡ false → after (headerOf p) unit n ≡ Gathering (keyOf p) (sequenceOf p) unit n
+after-middle : (p : List ℕ) (unit n : ℕ) → endOf p ≡ false
+    → after (headerOf p) unit n ≡ Gathering (keyOf p) (sequenceOf p) unit n
 unfolding after headerOf
 after-middle p unit n e = ap (λ (b : Bool). pick b Free (Gathering (keyOf p) (sequenceOf p) unit n)) e
 
@@ -67,7 +71,8 @@ after-end : (p : List ℕ) (unit n : ℕ) → endOf p ≡ true → after (header
 unfolding after headerOf
 after-end p unit n e = ap (λ (b : Bool). pick b Free (Gathering (keyOf p) (sequenceOf p) unit n)) e
 
-module _ (most : ℕ) (r : Receiver) (m : List ℕ) (k : Key) (i last unit : ℕ) (sofar : List ℕ) (G : Gathers most r m k i last unit sofar)
+module _ (most : ℕ) (r : Receiver) (m : List ℕ) (k : Key) (i last unit : ℕ) (sofar : List ℕ)
+    (G : Gathers most r m k i last unit sofar)
     (p : List ℕ) (F : Follows most (r .setup) k last unit (length sofar) p) where
   -- the packet's body is appended
   gathered-put : gathered i last unit (length sofar) (headerOf p) (length (bodyOf p))
@@ -77,13 +82,17 @@ module _ (most : ℕ) (r : Receiver) (m : List ℕ) (k : Key) (i last unit : ℕ
 
   its-slot : slotOf (r .slots) (headerOf p .key) ≡ i
   unfolding headerOf
-  its-slot = ap (slotOf (r .slots)) (F .key) ∙ slot-of-is most r (right-of most r (G .right)) k i (G .slot) (holds-key k last unit (length sofar) _ (G .state))
+  its-slot =
+      ap (slotOf (r .slots)) (F .key)
+      ∙ slot-of-is most r (right-of most r (G .right)) k i (G .slot)
+      (holds-key k last unit (length sofar) _ (G .state))
 
   starts-not : headerOf p .start ≡ false
   unfolding headerOf
   starts-not = F .not-start
 
-  appended : decided most r (length m) p ≡ put i (length sofar) false (after (headerOf p) unit (length sofar + length (bodyOf p)))
+  appended : decided most r (length m) p
+      ≡ put i (length sofar) false (after (headerOf p) unit (length sofar + length (bodyOf p)))
   unfolding onFollow
   appended =
       decided-rules most r (length m) p (setup-passes most r m (G .right) (G .memory)) (F .checked) (F .source)
@@ -106,7 +115,8 @@ module _ (most : ℕ) (r : Receiver) (m : List ℕ) (k : Key) (i last unit : ℕ
       }
   unfolding stepOf
   middle-step e =
-      let then = after-middle p unit (length sofar + length (bodyOf p)) e ∙ ap (λ (j : Key). Gathering j (sequenceOf p) unit (length sofar + length (bodyOf p))) (F .key) in
+      let then = after-middle p unit (length sofar + length (bodyOf p)) e
+      ∙ ap (λ (j : Key). Gathering j (sequenceOf p) unit (length sofar + length (bodyOf p))) (F .key) in
       ap (carried r m p) (appended ∙ ap (put i (length sofar) false) then)
 
   -- an end: done, with their total, and the slot is free
@@ -117,13 +127,18 @@ module _ (most : ℕ) (r : Receiver) (m : List ℕ) (k : Key) (i last unit : ℕ
         memory = laid m (1024 * i + length sofar) (bodyOf p);
       }
   unfolding stepOf
-  end-step e = ap (carried r m p) (appended ∙ ap (put i (length sofar) false) (after-end p unit (length sofar + length (bodyOf p)) e))
+  end-step e =
+      ap (carried r m p) (appended ∙ ap (put i (length sofar) false)
+      (after-end p unit (length sofar + length (bodyOf p)) e))
 
   -- the bytes of the message that is done: the bodies joined, in order
-  pub end-message : endOf p ≡ true → message (stepOf most r m p .memory) i (length sofar + length (bodyOf p)) ≡ sofar ++ bodyOf p
+  pub end-message : endOf p ≡ true
+      → message (stepOf most r m p .memory) i (length sofar + length (bodyOf p)) ≡ sofar ++ bodyOf p
   end-message e = ap (λ (l : Left). message (l .memory) i (length sofar + length (bodyOf p))) (end-step e) ∙ grown
 
-  pub middle-gathers : endOf p ≡ false → Gathers most (stepOf most r m p .receiver) (stepOf most r m p .memory) k i (sequenceOf p) unit (sofar ++ bodyOf p)
+  pub middle-gathers : endOf p ≡ false
+      → Gathers most (stepOf most r m p .receiver) (stepOf most r m p .memory) k i (sequenceOf p) unit
+      (sofar ++ bodyOf p)
   middle-gathers e =
       let total : length (sofar ++ bodyOf p) ≡ length sofar + length (bodyOf p) = length-append sofar (bodyOf p) in
       record {
@@ -138,31 +153,44 @@ module _ (most : ℕ) (r : Receiver) (m : List ℕ) (k : Key) (i last unit : ℕ
             ∙ grown;
       }
 
-module _ (most : ℕ) (r : Receiver) (m : List ℕ) (k : Key) (i last unit : ℕ) (sofar : List ℕ) (G : Gathers most r m k i last unit sofar) where
+module _ (most : ℕ) (r : Receiver) (m : List ℕ) (k : Key) (i last unit : ℕ) (sofar : List ℕ)
+    (G : Gathers most r m k i last unit sofar) where
   -- what a call leaves of the slot: its state and its bytes
   Leaves : Receiver → List ℕ → Type 0
-  Leaves r₂ m₂ = (slotAt (r₂ .slots) i ≡ slotAt (r .slots) i) × (message m₂ i (length sofar) ≡ message m i (length sofar))
+  Leaves r₂ m₂ =
+      (slotAt (r₂ .slots) i ≡ slotAt (r .slots) i) × (message m₂ i (length sofar) ≡ message m i (length sofar))
 
   held-fits : length sofar ≤ 1024
   held-fits =
-      gathering-of most (r .setup) k last unit (length sofar) (ap (rightSlot most (r .setup)) (sym (G .state)) ∙ right-of most r (G .right) .each i (G .slot)) .0 .held-high
+      gathering-of most (r .setup) k last unit (length sofar)
+      (ap (rightSlot most (r .setup)) (sym (G .state)) ∙ right-of most r (G .right) .each i (G .slot)) .0 .held-high
 
   -- a packet of another key
-  other-key : (p : List ℕ) → sameKey k (keyOf p) ≡ false → Leaves (stepOf most r m p .receiver) (stepOf most r m p .memory)
+  other-key : (p : List ℕ) → sameKey k (keyOf p) ≡ false
+      → Leaves (stepOf most r m p .receiver) (stepOf most r m p .memory)
   unfolding stepOf Leaves
   other-key p o =
       let mine : hasKey (keyOf p) (slotAt (r .slots) i) ≡ false = ap (hasKey (keyOf p)) (G .state) ∙ o in
-      let apart : (j : ℕ) → hasKey (keyOf p) (slotAt (r .slots) j) ≡ true → i ≡ j → ⊥ = λ j h s. true≢false (sym h ∙ ap (λ (n : ℕ). hasKey (keyOf p) (slotAt (r .slots) n)) (sym s) ∙ mine) in
+      let apart : (j : ℕ) → hasKey (keyOf p) (slotAt (r .slots) j) ≡ true → i ≡ j
+      → ⊥ = λ j h s. true≢false (sym h ∙ ap (λ (n : ℕ). hasKey (keyOf p) (slotAt (r .slots) n)) (sym s) ∙ mine) in
       let taken : (j : ℕ) → (isFree (slotAt (r .slots) j) || hasKey (keyOf p) (slotAt (r .slots) j)) ≡ true → i ≡ j → ⊥
-      = λ j h s. true≢false (sym h ∙ ap (λ (n : ℕ). isFree (slotAt (r .slots) n) || hasKey (keyOf p) (slotAt (r .slots) n)) (sym s) ∙ ap (λ (x : SlotState). isFree x || hasKey (keyOf p) x) (G .state) ∙ o) in
-      every-decision most r (length m) p (λ d. (slotAt (carried r m p d .receiver .slots) i ≡ slotAt (r .slots) i) × (message (carried r m p d .memory) i (length sofar) ≡ message m i (length sofar)))
+      =
+      λ j h s. true≢false (sym h ∙ ap
+      (λ (n : ℕ). isFree (slotAt (r .slots) n) || hasKey (keyOf p) (slotAt (r .slots) n)) (sym s)
+      ∙ ap (λ (x : SlotState). isFree x || hasKey (keyOf p) x) (G .state) ∙ o) in
+      every-decision most r (length m) p
+      (λ d. (slotAt (carried r m p d .receiver .slots) i ≡ slotAt (r .slots) i)
+      × (message (carried r m p d .memory) i (length sofar) ≡ message m i (length sofar)))
       (λ n low high. (refl, refl))
       (λ e j n h low high c. (slot-other (r .slots) j i Free (apart j c), refl))
-      (λ e s j at again then f.
-      (slot-other (r .slots) j i then (taken j (f .taken)), slot-apart most m i j at (bodyOf p) (length sofar) (λ x. taken j (f .taken) (sym x)) (f .place) held-fits))
+      (λ e s j at again then f. (
+        slot-other (r .slots) j i then (taken j (f .taken)),
+        slot-apart most m i j at (bodyOf p) (length sofar) (λ x. taken j (f .taken) (sym x)) (f .place) held-fits,
+      ))
 
   -- a packet that is refused with anything but 20 to 22
-  early-refused : (p : List ℕ) (n : ℕ) → n ≤ 19 → stepOf most r m p .said ≡ refused n → Leaves (stepOf most r m p .receiver) (stepOf most r m p .memory)
+  early-refused : (p : List ℕ) (n : ℕ) → n ≤ 19 → stepOf most r m p .said ≡ refused n
+      → Leaves (stepOf most r m p .receiver) (stepOf most r m p .memory)
   unfolding Leaves
   early-refused p n high e =
       let same = refused-unchanged most r m p n e (λ x. omega arith) (λ x. omega arith) (λ x. omega arith) in
@@ -174,7 +202,8 @@ module _ (most : ℕ) (r : Receiver) (m : List ℕ) (k : Key) (i last unit : ℕ
   leaves (free j) d = (freed-others most r i j d, refl)
 
   -- what stands between leaves the message as it was
-  pub between-gathers : (c : Call) → Harmless most r m k i c → Gathers most (called most r m c .receiver) (called most r m c .memory) k i last unit sofar
+  pub between-gathers : (c : Call) → Harmless most r m k i c
+      → Gathers most (called most r m c .receiver) (called most r m c .memory) k i last unit sofar
   unfolding Leaves
   between-gathers c h =
       let same = leaves c h in
@@ -187,33 +216,47 @@ module _ (most : ℕ) (r : Receiver) (m : List ℕ) (k : Key) (i last unit : ℕ
       }
 
 -- a start is put into its key's slot, else into the lowest free one
-start-put : (b : Bool) (x y : ℕ) (then : SlotState) → pick b x y < 4 → pick b (put x 0 true then) (pick (ltb y 4) (put y 0 false then) (refuse 18)) ≡ put (pick b x y) 0 b then
+start-put : (b : Bool) (x y : ℕ) (then : SlotState) → pick b x y < 4
+    → pick b (put x 0 true then) (pick (ltb y 4) (put y 0 false then) (refuse 18)) ≡ put (pick b x y) 0 b then
 start-put true x y then h = refl
 start-put false x y then h = rw (lt-ltb y 4 h)
 
-module _ (most : ℕ) (r : Receiver) (m p : List ℕ) (right : rightState most r ≡ true) (size : length m ≡ 4096) (S : Starts most (r .setup) p)
+module _ (most : ℕ) (r : Receiver) (m p : List ℕ) (right : rightState most r ≡ true) (size : length m ≡ 4096)
+    (S : Starts most (r .setup) p)
     (room : slotFor (r .slots) (keyOf p) < 4) where
   begun : decided most r (length m) p
-      ≡ put (slotFor (r .slots) (keyOf p)) 0 (ltb (slotOf (r .slots) (keyOf p)) 4) (after (headerOf p) (length (bodyOf p)) (length (bodyOf p)))
+      ≡ put (slotFor (r .slots) (keyOf p)) 0 (ltb (slotOf (r .slots) (keyOf p)) 4)
+      (after (headerOf p) (length (bodyOf p)) (length (bodyOf p)))
   unfolding onStart slotFor headerOf
   begun =
       decided-rules most r (length m) p (setup-passes most r m right size) (S .checked) (S .source)
       ∙ ruled-start (r .slots) (headerOf p) (length (bodyOf p)) (S .start)
-      ∙ start-put (ltb (slotOf (r .slots) (keyOf p)) 4) (slotOf (r .slots) (keyOf p)) (lowestFree (r .slots) 0 4) (after (headerOf p) (length (bodyOf p)) (length (bodyOf p))) room
+      ∙ start-put (ltb (slotOf (r .slots) (keyOf p)) 4) (slotOf (r .slots) (keyOf p)) (lowestFree (r .slots) 0 4)
+      (after (headerOf p) (length (bodyOf p)) (length (bodyOf p))) room
 
   body-fits : length (bodyOf p) ≤ 1024
-  body-fits = omega (arith, within-bounds 5 (4 + most) (length p) (packet-good most (r .setup) p (S .checked) .size), length-drop 4 p, most-bounds most r right)
+  body-fits =
+      omega (
+        arith,
+        within-bounds 5 (4 + most) (length p) (packet-good most (r .setup) p (S .checked) .size),
+        length-drop 4 p,
+        most-bounds most r right,
+      )
 
-  laid-first : message (laid m (1024 * slotFor (r .slots) (keyOf p) + 0) (bodyOf p)) (slotFor (r .slots) (keyOf p)) (length (bodyOf p)) ≡ bodyOf p
+  laid-first : message (laid m (1024 * slotFor (r .slots) (keyOf p) + 0) (bodyOf p)) (slotFor (r .slots) (keyOf p))
+      (length (bodyOf p)) ≡ bodyOf p
   laid-first =
       let i = slotFor (r .slots) (keyOf p) in
-      rw (sym (zero-add (length (bodyOf p)))) (part-grown m (1024 * i) 0 (bodyOf p) (omega (arith, size, room, body-fits)))
+      rw (sym (zero-add (length (bodyOf p))))
+      (part-grown m (1024 * i) 0 (bodyOf p) (omega (arith, size, room, body-fits)))
 
   -- "its body goes to the slot's front": held, or done where it is the end too; "again" exactly if its key had a slot
   pub start-held : endOf p ≡ false → stepOf most r m p
       ≡ record {
         said = held (slotFor (r .slots) (keyOf p)) (length (bodyOf p)) (ltb (slotOf (r .slots) (keyOf p)) 4);
-        receiver = withState r (slotFor (r .slots) (keyOf p)) (Gathering (keyOf p) (sequenceOf p) (length (bodyOf p)) (length (bodyOf p)));
+        receiver =
+            withState r (slotFor (r .slots) (keyOf p))
+            (Gathering (keyOf p) (sequenceOf p) (length (bodyOf p)) (length (bodyOf p)));
         memory = laid m (1024 * slotFor (r .slots) (keyOf p) + 0) (bodyOf p);
       }
   unfolding stepOf
@@ -221,7 +264,11 @@ module _ (most : ℕ) (r : Receiver) (m p : List ℕ) (right : rightState most r
       let i = slotFor (r .slots) (keyOf p) in
       let again = ltb (slotOf (r .slots) (keyOf p)) 4 in
       ap (carried r m p) (begun ∙ ap (put i 0 again) (after-middle p (length (bodyOf p)) (length (bodyOf p)) e))
-      ∙ ap (λ (n : ℕ). record { said = held i n again; receiver = withState r i (Gathering (keyOf p) (sequenceOf p) (length (bodyOf p)) (length (bodyOf p))); memory = laid m (1024 * i + 0) (bodyOf p) }) (zero-add (length (bodyOf p)))
+      ∙ ap (λ (n : ℕ). record {
+        said = held i n again;
+        receiver = withState r i (Gathering (keyOf p) (sequenceOf p) (length (bodyOf p)) (length (bodyOf p)));
+        memory = laid m (1024 * i + 0) (bodyOf p);
+      }) (zero-add (length (bodyOf p)))
 
   pub start-done : endOf p ≡ true → stepOf most r m p
       ≡ record {
@@ -234,17 +281,31 @@ module _ (most : ℕ) (r : Receiver) (m p : List ℕ) (right : rightState most r
       let i = slotFor (r .slots) (keyOf p) in
       let again = ltb (slotOf (r .slots) (keyOf p)) 4 in
       ap (carried r m p) (begun ∙ ap (put i 0 again) (after-end p (length (bodyOf p)) (length (bodyOf p)) e))
-      ∙ ap (λ (n : ℕ). record { said = done i n again; receiver = withState r i Free; memory = laid m (1024 * i + 0) (bodyOf p) }) (zero-add (length (bodyOf p)))
+      ∙ ap (λ (n : ℕ). record {
+        said = done i n again;
+        receiver = withState r i Free;
+        memory = laid m (1024 * i + 0) (bodyOf p);
+      }) (zero-add (length (bodyOf p)))
 
-  pub start-message : endOf p ≡ true → message (stepOf most r m p .memory) (slotFor (r .slots) (keyOf p)) (length (bodyOf p)) ≡ bodyOf p
-  start-message e = ap (λ (l : Left). message (l .memory) (slotFor (r .slots) (keyOf p)) (length (bodyOf p))) (start-done e) ∙ laid-first
+  pub start-message : endOf p ≡ true
+      → message (stepOf most r m p .memory) (slotFor (r .slots) (keyOf p)) (length (bodyOf p)) ≡ bodyOf p
+  start-message e =
+      ap (λ (l : Left). message (l .memory) (slotFor (r .slots) (keyOf p)) (length (bodyOf p))) (start-done e)
+      ∙ laid-first
 
-  pub start-gathers : endOf p ≡ false → Gathers most (stepOf most r m p .receiver) (stepOf most r m p .memory) (keyOf p) (slotFor (r .slots) (keyOf p)) (sequenceOf p) (length (bodyOf p)) (bodyOf p)
+  pub start-gathers : endOf p ≡ false
+      → Gathers most (stepOf most r m p .receiver) (stepOf most r m p .memory) (keyOf p) (slotFor (r .slots) (keyOf p))
+      (sequenceOf p) (length (bodyOf p)) (bodyOf p)
   start-gathers e =
       record {
         right = step-right most r m p right;
         memory = one-slot most r m p .size ∙ size;
         slot = room;
-        state = ap (λ (l : Left). slotAt (l .receiver .slots) (slotFor (r .slots) (keyOf p))) (start-held e) ∙ slot-same (r .slots) (slotFor (r .slots) (keyOf p)) _ (omega (arith, room, right-of most r right .four));
-        bytes = ap (λ (l : Left). message (l .memory) (slotFor (r .slots) (keyOf p)) (length (bodyOf p))) (start-held e) ∙ laid-first;
+        state =
+            ap (λ (l : Left). slotAt (l .receiver .slots) (slotFor (r .slots) (keyOf p))) (start-held e)
+            ∙ slot-same (r .slots) (slotFor (r .slots) (keyOf p)) _
+            (omega (arith, room, right-of most r right .four));
+        bytes =
+            ap (λ (l : Left). message (l .memory) (slotFor (r .slots) (keyOf p)) (length (bodyOf p))) (start-held e)
+            ∙ laid-first;
       }

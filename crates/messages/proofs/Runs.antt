@@ -1,4 +1,5 @@
--- Runs: one after the other, a right state stays right, the memory keeps its size, and a slot's bytes stay until a call writes there.
+-- Runs: one after the other, a right state stays right, the memory keeps its size, and a slot's bytes stay until a call
+-- writes there.
 -- Assumes nothing.
 use mathlib.Core.Path.{_≡_, refl, ap, sym, _∙_}
 use mathlib.Core.Bool.{Bool, true, false, not, _&&_}
@@ -31,7 +32,8 @@ use Rattle.receiver.proofs.Laws.{step-right, one-slot}
 use Rattle.messages.specs.Run.{Call, give, free, message, Ran, called, joined, run, intoSlot, untouched}
 
 -- a slot freed leaves the others
-pub freed-others : (most : ℕ) (r : Receiver) (i j : ℕ) → (j ≡ i → ⊥) → slotAt (freedOf most r j .receiver .slots) i ≡ slotAt (r .slots) i
+pub freed-others : (most : ℕ) (r : Receiver) (i j : ℕ) → (j ≡ i → ⊥)
+    → slotAt (freedOf most r j .receiver .slots) i ≡ slotAt (r .slots) i
 unfolding freedOf
 freed-others most r i j d =
     pick-elim (λ (k : Kept). slotAt (k .receiver .slots) i ≡ slotAt (r .slots) i) (rightState most r && ltb j 4)
@@ -56,17 +58,27 @@ freed-one-slot most r m j =
       bytes-before = λ k h. refl;
       bytes-behind = λ k h. refl;
     })
-    (λ e. record { slot = 0; one-of-four = lit< tt; setup = refl; others = λ i d. refl; size = refl; bytes-before = λ k h. refl; bytes-behind = λ k h. refl })
+    (λ e. record {
+      slot = 0;
+      one-of-four = lit< tt;
+      setup = refl;
+      others = λ i d. refl;
+      size = refl;
+      bytes-before = λ k h. refl;
+      bytes-behind = λ k h. refl;
+    })
 
 module _ (most : ℕ) where
   -- no call: nothing
-  pub run-none : (r : Receiver) (m : List ℕ) → run most r m [] ≡ record { answers = []; messages = []; receiver = r; memory = m }
+  pub run-none : (r : Receiver) (m : List ℕ)
+      → run most r m [] ≡ record { answers = []; messages = []; receiver = r; memory = m }
   unfolding run
   run-none r m = refl
 
   -- one call, then the rest
   pub run-step : (r : Receiver) (m : List ℕ) (c : Call) (calls : List Call)
-      → run most r m (c ∷ calls) ≡ joined (called most r m c) (run most (called most r m c .receiver) (called most r m c .memory) calls)
+      → run most r m (c ∷ calls) ≡ joined (called most r m c)
+      (run most (called most r m c .receiver) (called most r m c .memory) calls)
   unfolding run
   run-step r m c calls = refl
 
@@ -84,22 +96,28 @@ module _ (most : ℕ) where
   run-append r m (c ∷ a) b =
       let first = called most r m c in
       ap (joined first) (run-append (first .receiver) (first .memory) a b)
-      ∙ joined-assoc first (run most (first .receiver) (first .memory) a) (run most (run most (first .receiver) (first .memory) a .receiver) (run most (first .receiver) (first .memory) a .memory) b)
+      ∙ joined-assoc first (run most (first .receiver) (first .memory) a)
+      (run most (run most (first .receiver) (first .memory) a .receiver)
+      (run most (first .receiver) (first .memory) a .memory) b)
 
   -- any call changes at most one slot and that slot's 1,024 bytes
-  pub called-one-slot : (r : Receiver) (m : List ℕ) (c : Call) → OneSlot r m (called most r m c .receiver) (called most r m c .memory)
+  pub called-one-slot : (r : Receiver) (m : List ℕ) (c : Call)
+      → OneSlot r m (called most r m c .receiver) (called most r m c .memory)
   called-one-slot r m (give p) = one-slot most r m p
   called-one-slot r m (free j) = freed-one-slot most r m j
 
   -- a right state stays right under every call
-  pub called-right : (r : Receiver) (m : List ℕ) (c : Call) → rightState most r ≡ true → rightState most (called most r m c .receiver) ≡ true
+  pub called-right : (r : Receiver) (m : List ℕ) (c : Call) → rightState most r ≡ true
+      → rightState most (called most r m c .receiver) ≡ true
   called-right r m (give p) e = step-right most r m p e
   called-right r m (free i) e = freed-right most r i e
 
-  pub run-right : (r : Receiver) (m : List ℕ) (calls : List Call) → rightState most r ≡ true → rightState most (run most r m calls .receiver) ≡ true
+  pub run-right : (r : Receiver) (m : List ℕ) (calls : List Call) → rightState most r ≡ true
+      → rightState most (run most r m calls .receiver) ≡ true
   unfolding run
   run-right r m [] e = e
-  run-right r m (c ∷ calls) e = run-right (called most r m c .receiver) (called most r m c .memory) calls (called-right r m c e)
+  run-right r m (c ∷ calls) e =
+      run-right (called most r m c .receiver) (called most r m c .memory) calls (called-right r m c e)
 
   -- the memory keeps its size
   pub called-size : (r : Receiver) (m : List ℕ) (c : Call) → length (called most r m c .memory) ≡ length m
@@ -108,7 +126,8 @@ module _ (most : ℕ) where
   pub run-size : (r : Receiver) (m : List ℕ) (calls : List Call) → length (run most r m calls .memory) ≡ length m
   unfolding run
   run-size r m [] = refl
-  run-size r m (c ∷ calls) = run-size (called most r m c .receiver) (called most r m c .memory) calls ∙ called-size r m c
+  run-size r m (c ∷ calls) =
+      run-size (called most r m c .receiver) (called most r m c .memory) calls ∙ called-size r m c
 
   -- a body put into another slot leaves this slot's bytes
   pub slot-apart : (m : List ℕ) (i j at : ℕ) (b : List ℕ) (n : ℕ) → (j ≡ i → ⊥) → at + length b ≤ 1024 → n ≤ 1024
@@ -129,20 +148,24 @@ module _ (most : ℕ) where
       → message (stepOf most r m p .memory) i n ≡ message m i n
   unfolding stepOf
   step-stays r m p i n high e =
-      every-decision most r (length m) p (λ d. intoSlot i (carried r m p d .said) ≡ false → message (carried r m p d .memory) i n ≡ message m i n)
+      every-decision most r (length m) p
+      (λ d. intoSlot i (carried r m p d .said) ≡ false → message (carried r m p d .memory) i n ≡ message m i n)
       (λ k low up s. refl)
       (λ x j k h low up c s. refl)
-      (λ x y j at again then f s. slot-apart m i j at (bodyOf p) n (eqb-false j i (sym (into-put then i j (at + length (bodyOf p)) again) ∙ s)) (f .place) high)
+      (λ x y j at again then f s. slot-apart m i j at (bodyOf p) n
+      (eqb-false j i (sym (into-put then i j (at + length (bodyOf p)) again) ∙ s)) (f .place) high)
       e
 
   -- "Its bytes stay until a later call writes there."
-  pub run-stays : (r : Receiver) (m : List ℕ) (calls : List Call) (i n : ℕ) → n ≤ 1024 → untouched i (run most r m calls .answers) ≡ true
+  pub run-stays : (r : Receiver) (m : List ℕ) (calls : List Call) (i n : ℕ) → n ≤ 1024
+      → untouched i (run most r m calls .answers) ≡ true
       → message (run most r m calls .memory) i n ≡ message m i n
   unfolding run
   run-stays r m [] i n high e = refl
   run-stays r m (give p ∷ calls) i n high e =
       let c = called most r m (give p) in
-      let h = both (not (intoSlot i (stepOf most r m p .said))) (untouched i (run most (c .receiver) (c .memory) calls .answers)) e in
+      let h = both (not (intoSlot i (stepOf most r m p .said)))
+      (untouched i (run most (c .receiver) (c .memory) calls .answers)) e in
       run-stays (c .receiver) (c .memory) calls i n high (h .1) ∙ step-stays r m p i n high (not-true _ (h .0))
   run-stays r m (free j ∷ calls) i n high e =
       let c = called most r m (free j) in

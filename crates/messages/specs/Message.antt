@@ -57,7 +57,8 @@ partReplies (between c ∷ items) (a ∷ answers) = partReplies items answers
 -- "Without end: held, with slot and bytes held": the sum of the bodies so far, n of them before these items
 abbrev pub heldReplies : ℕ → ℕ → List Item → List Reply
 heldReplies slot n [] = []
-heldReplies slot n (part p ∷ items) = rules (held slot (n + length (bodyOf p)) false) ∷ heldReplies slot (n + length (bodyOf p)) items
+heldReplies slot n (part p ∷ items) =
+    rules (held slot (n + length (bodyOf p)) false) ∷ heldReplies slot (n + length (bodyOf p)) items
 heldReplies slot n (between c ∷ items) = heldReplies slot n items
 
 -- "Start: takes its key's slot .. else the lowest free slot": 4 where there is neither
@@ -70,8 +71,8 @@ pub record Starts (most : ℕ) (s : Setup) (p : List ℕ) : Type 0 where
   pub source : sourceRefusal p ≡ 0
   pub start : startOf p ≡ true
 
--- a packet without start that no check refuses, of this key, with the next sequence ("rising modulo 4"), a middle of the unit's size
--- or an end no longer, with which no more than 1,024 bytes are held
+-- a packet without start that no check refuses, of this key, with the next sequence ("rising modulo 4"), a middle of
+-- the unit's size or an end no longer, with which no more than 1,024 bytes are held
 pub record Follows (most : ℕ) (s : Setup) (k : Key) (last unit n : ℕ) (p : List ℕ) : Type 0 where
   pub checked : packetRefusal most s p ≡ 0
   pub source : sourceRefusal p ≡ 0
@@ -81,40 +82,49 @@ pub record Follows (most : ℕ) (s : Setup) (k : Key) (last unit n : ℕ) (p : L
   pub size : wrongUnit (endOf p) unit (length (bodyOf p)) ≡ false
   pub room : n + length (bodyOf p) ≤ 1024
 
--- what may stand between the packets of a message of this key in this slot: a packet of another key, whatever comes of it (a start of
--- another key may take a free slot), a packet that is refused with anything but 20 to 22, or another slot freed
+-- what may stand between the packets of a message of this key in this slot: a packet of another key, whatever comes of
+-- it (a start of another key may take a free slot), a packet that is refused with anything but 20 to 22, or another
+-- slot freed
 abbrev pub Harmless : ℕ → Receiver → List ℕ → Key → ℕ → Call → Type 0
-Harmless most r m k slot (give p) = (sameKey k (keyOf p) ≡ false) ⊎ ((n : ℕ) × (n ≤ 19) × (stepOf most r m p .said ≡ refused n))
+Harmless most r m k slot (give p) =
+    (sameKey k (keyOf p) ≡ false) ⊎ ((n : ℕ) × (n ≤ 19) × (stepOf most r m p .said ≡ refused n))
 Harmless most r m k slot (free i) = i ≡ slot → ⊥
 
--- middles of a message, n bytes of which are held, with what stands between, each in the state that the call before it left
+-- middles of a message, n bytes of which are held, with what stands between, each in the state that the call before it
+-- left
 unfoldable pub Middles : ℕ → Key → ℕ → Receiver → List ℕ → ℕ → ℕ → ℕ → List Item → Type 0
 Middles most k slot r m last unit n [] = Unit
 Middles most k slot r m last unit n (part p ∷ items) =
     Follows most (r .setup) k last unit n p
     × (endOf p ≡ false)
-    × Middles most k slot (called most r m (give p) .receiver) (called most r m (give p) .memory) (sequenceOf p) unit (n + length (bodyOf p)) items
+    × Middles most k slot (called most r m (give p) .receiver) (called most r m (give p) .memory) (sequenceOf p) unit
+    (n + length (bodyOf p)) items
 Middles most k slot r m last unit n (between c ∷ items) =
     Harmless most r m k slot c
     × Middles most k slot (called most r m c .receiver) (called most r m c .memory) last unit n items
 
--- "every list of packets of one key with start first, sequences rising modulo 4, middles of the start's size, an end no longer", with at most
--- 1,024 bytes in all, from a right state in which the key has a slot or a slot is free
+-- "every list of packets of one key with start first, sequences rising modulo 4, middles of the start's size, an end no
+-- longer", with at most 1,024 bytes in all, from a right state in which the key has a slot or a slot is free
 pub record Train (most : ℕ) (r : Receiver) (m first : List ℕ) (items : List Item) (final : List ℕ) : Type 0 where
   pub state : rightState most r ≡ true
   pub memory : length m ≡ 4096
   pub room : slotFor (r .slots) (keyOf first) < 4
   pub starts : Starts most (r .setup) first
   pub more : endOf first ≡ false
-  pub middles : Middles most (keyOf first) (slotFor (r .slots) (keyOf first)) (called most r m (give first) .receiver) (called most r m (give first) .memory) (sequenceOf first) (length (bodyOf first)) (length (bodyOf first)) items
-  pub follows : Follows most (r .setup) (keyOf first) (lastOf (sequenceOf first) items) (length (bodyOf first)) (length (bodyOf first ++ bodiesOf items)) final
+  pub middles : Middles most (keyOf first) (slotFor (r .slots) (keyOf first)) (called most r m (give first) .receiver)
+      (called most r m (give first) .memory) (sequenceOf first) (length (bodyOf first)) (length (bodyOf first)) items
+  pub follows : Follows most (r .setup) (keyOf first) (lastOf (sequenceOf first) items) (length (bodyOf first))
+      (length (bodyOf first ++ bodiesOf items)) final
   pub ends : endOf final ≡ true
 
--- what a message's packets leave: the first is held (again, where its key had a slot), each middle is held with the sum so far, the last is done
--- with the total, its message is the bodies joined in order, and the slot is free
-pub record Accepted (r : Receiver) (first : List ℕ) (items : List Item) (final : List ℕ) (whole middle : Ran) (i : ℕ) : Type 0 where
+-- what a message's packets leave: the first is held (again, where its key had a slot), each middle is held with the sum
+-- so far, the last is done with the total, its message is the bodies joined in order, and the slot is free
+pub record Accepted (r : Receiver) (first : List ℕ) (items : List Item) (final : List ℕ) (whole middle : Ran)
+    (i : ℕ) : Type 0 where
   pub answers : whole .answers
-      ≡ rules (held i (length (bodyOf first)) (ltb (slotOf (r .slots) (keyOf first)) 4)) ∷ (middle .answers ++ (rules (done i (length (bodyOf first ++ bodiesOf items) + length (bodyOf final)) false) ∷ []))
+      ≡ rules (held i (length (bodyOf first)) (ltb (slotOf (r .slots) (keyOf first)) 4)) ∷
+      (middle .answers ++ (rules (done i (length (bodyOf first ++ bodiesOf items) + length (bodyOf final)) false)
+      ∷ []))
   pub held-so-far : partReplies items (middle .answers) ≡ heldReplies i (length (bodyOf first)) items
   pub messages : whole .messages ≡ middle .messages ++ (((bodyOf first ++ bodiesOf items) ++ bodyOf final) ∷ [])
   pub slot-free : slotAt (whole .receiver .slots) i ≡ Free

@@ -1,4 +1,5 @@
--- A run: a list of calls of one receiver, one after the other, from any state and memory (demand 3 is about its packets alone).
+-- A run: a list of calls of one receiver, one after the other, from any state and memory (demand 3 is about its packets
+-- alone).
 -- Assumes nothing.
 use Prim.Native.Nat.{ℕ, _*_}
 use mathlib.Core.Bool.{Bool, true, false, not, _&&_}
@@ -38,7 +39,13 @@ pub record Ran : Type 0 where
 
 -- one packet's call, and one freeing call, which leaves the memory
 abbrev pub ofStep : Left → Ran
-ofStep l = record { answers = rules (l .said) ∷ []; messages = messagesOf (l .said) (l .memory); receiver = l .receiver; memory = l .memory }
+ofStep l =
+    record {
+      answers = rules (l .said) ∷ [];
+      messages = messagesOf (l .said) (l .memory);
+      receiver = l .receiver;
+      memory = l .memory;
+    }
 
 abbrev pub ofFreed : Kept → List ℕ → Ran
 ofFreed k m = record { answers = freed (k .number) ∷ []; messages = []; receiver = k .receiver; memory = m }
@@ -49,12 +56,19 @@ called most r m (free slot) = ofFreed (freedOf most r slot) m
 
 -- what came first, then what came after it
 abbrev pub joined : Ran → Ran → Ran
-joined a b = record { answers = a .answers ++ b .answers; messages = a .messages ++ b .messages; receiver = b .receiver; memory = b .memory }
+joined a b =
+    record {
+      answers = a .answers ++ b .answers;
+      messages = a .messages ++ b .messages;
+      receiver = b .receiver;
+      memory = b .memory;
+    }
 
 -- each call in the state and memory that the one before it left
 unfoldable pub run : ℕ → Receiver → List ℕ → List Call → Ran
 run most r m [] = record { answers = []; messages = []; receiver = r; memory = m }
-run most r m (c ∷ calls) = joined (called most r m c) (run most (called most r m c .receiver) (called most r m c .memory) calls)
+run most r m (c ∷ calls) =
+    joined (called most r m c) (run most (called most r m c .receiver) (called most r m c .memory) calls)
 
 -- a list of packets, given one after the other
 abbrev pub runPackets : ℕ → Receiver → List ℕ → List (List ℕ) → Ran

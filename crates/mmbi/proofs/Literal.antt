@@ -6,7 +6,12 @@ use mathlib.Core.Bool.{Bool, true, false}
 use mathlib.Core.List.{List, [], _∷_, map}
 use Prim.Native.Nat.{ℕ}
 use Rattle.mmbi.specs.declared.interface.Flags.{Flags}
-use Rattle.mmbi.specs.declared.interface.InterfaceState.the-variants.{InitializationCompleted, ResetRequestByController, ResetRequestByHost, TransitioningToInitialization, TemporaryTransition, InitializationMismatch, Unexpected}
+use Rattle.mmbi.specs.declared.interface.InterfaceState.the-variants.{InitializationCompleted}
+use Rattle.mmbi.specs.declared.interface.InterfaceState.the-variants.{ResetRequestByController}
+use Rattle.mmbi.specs.declared.interface.InterfaceState.the-variants.{ResetRequestByHost}
+use Rattle.mmbi.specs.declared.interface.InterfaceState.the-variants.{TransitioningToInitialization}
+use Rattle.mmbi.specs.declared.interface.InterfaceState.the-variants.{TemporaryTransition, InitializationMismatch}
+use Rattle.mmbi.specs.declared.interface.InterfaceState.the-variants.{Unexpected}
 use Rattle.mmbi.specs.declared.word.Word.{Word}
 use Rattle.mmbi.specs.Interface.{stateOf}
 use Rattle.mmbi.specs.Words.{wordOf, numberOf}

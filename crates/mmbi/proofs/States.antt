@@ -8,7 +8,13 @@ use lib.ListN.{getD}
 use Rattle.octets.specs.Choice.{pick}
 use Rattle.mmbi.specs.declared.interface.Flags.{Flags}
 use Rattle.mmbi.specs.declared.interface.InterfaceState.{InterfaceState}
-use Rattle.mmbi.specs.declared.interface.InterfaceState.the-variants.{InitializationInProgress, InitializationCompleted, NormalRuntime, ResetRequestByController, ResetRequestByHost, ResetAcked, TransitioningToInitialization, TemporaryTransition, InitializationMismatch, Unexpected}
+use Rattle.mmbi.specs.declared.interface.InterfaceState.the-variants.{InitializationInProgress}
+use Rattle.mmbi.specs.declared.interface.InterfaceState.the-variants.{InitializationCompleted, NormalRuntime}
+use Rattle.mmbi.specs.declared.interface.InterfaceState.the-variants.{ResetRequestByController}
+use Rattle.mmbi.specs.declared.interface.InterfaceState.the-variants.{ResetRequestByHost, ResetAcked}
+use Rattle.mmbi.specs.declared.interface.InterfaceState.the-variants.{TransitioningToInitialization}
+use Rattle.mmbi.specs.declared.interface.InterfaceState.the-variants.{TemporaryTransition, InitializationMismatch}
+use Rattle.mmbi.specs.declared.interface.InterfaceState.the-variants.{Unexpected}
 use Rattle.mmbi.specs.Interface.{row, flagsOf, normalRuntime, askedByHost, askedByController, stateOf}
 use Rattle.mmbi.specs.Interface.{isTransient, mayRead, mayWrite}
 
@@ -41,7 +47,8 @@ byEnds bUp bRst hUp hRst =
     (pick hUp (pick hRst ResetAcked ResetRequestByController) (pick hRst Unexpected Unexpected))
     (pick hUp (pick hRst ResetRequestByHost NormalRuntime) (pick hRst InitializationMismatch InitializationCompleted)))
     (pick bRst
-    (pick hUp (pick hRst TransitioningToInitialization TemporaryTransition) (pick hRst TemporaryTransition TemporaryTransition))
+    (pick hUp (pick hRst TransitioningToInitialization TemporaryTransition)
+    (pick hRst TemporaryTransition TemporaryTransition))
     (pick hUp (pick hRst Unexpected Unexpected) (pick hRst TemporaryTransition InitializationInProgress)))
 
 -- where the four flags stand, as the digits of a number
@@ -95,7 +102,8 @@ all-states = refl
 -- "1000 .. 1010 .. 1011 .. 1110 .. 1111 .. the rest transient": eleven of them
 pub all-transient :
     map (λ (f : Flags). isTransient (stateOf f)) sixteen
-    ≡ true ∷ true ∷ true ∷ true ∷ true ∷ true ∷ true ∷ true ∷ false ∷ true ∷ false ∷ false ∷ true ∷ true ∷ false ∷ false ∷ []
+    ≡ true ∷ true ∷ true ∷ true ∷ true ∷ true ∷ true ∷ true ∷ false ∷ true ∷ false ∷ false ∷ true ∷ true ∷ false
+    ∷ false ∷ []
 unfolding stateOf
 all-transient = refl
 

@@ -65,7 +65,8 @@ flags-kept w =
 pub word-back : (w : Word) → w .pointer % 4 ≡ 0 → w .pointer < 2 ^ 32 → wordOf (numberOf w) ≡ w
 unfolding wordOf numberOf
 word-back w h k =
-    let pointer : pointerIn (numberOf w) ≡ w .pointer = pointer-back (w .pointer / 4 % 1073741824) (w .high) (w .low) ∙ omega arith in
+    let pointer : pointerIn (numberOf w) ≡ w .pointer = pointer-back (w .pointer / 4 % 1073741824) (w .high) (w .low)
+    ∙ omega arith in
     let high : highIn (numberOf w) ≡ w .high = flags-kept w .0 in
     let low : lowIn (numberOf w) ≡ w .low = flags-kept w .1 in
     λ i. record { pointer = pointer i; high = high i; low = low i }

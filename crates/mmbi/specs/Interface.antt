@@ -3,7 +3,13 @@
 use mathlib.Core.Bool.{Bool, true, false}
 use Rattle.mmbi.specs.declared.interface.Flags.{Flags}
 use Rattle.mmbi.specs.declared.interface.InterfaceState.{InterfaceState}
-use Rattle.mmbi.specs.declared.interface.InterfaceState.the-variants.{InitializationInProgress, InitializationCompleted, NormalRuntime, ResetRequestByController, ResetRequestByHost, ResetAcked, TransitioningToInitialization, TemporaryTransition, InitializationMismatch, Unexpected}
+use Rattle.mmbi.specs.declared.interface.InterfaceState.the-variants.{InitializationInProgress}
+use Rattle.mmbi.specs.declared.interface.InterfaceState.the-variants.{InitializationCompleted, NormalRuntime}
+use Rattle.mmbi.specs.declared.interface.InterfaceState.the-variants.{ResetRequestByController}
+use Rattle.mmbi.specs.declared.interface.InterfaceState.the-variants.{ResetRequestByHost, ResetAcked}
+use Rattle.mmbi.specs.declared.interface.InterfaceState.the-variants.{TransitioningToInitialization}
+use Rattle.mmbi.specs.declared.interface.InterfaceState.the-variants.{TemporaryTransition, InitializationMismatch}
+use Rattle.mmbi.specs.declared.interface.InterfaceState.the-variants.{Unexpected}
 
 -- Table 5, its columns "B_UP B_RST H_UP H_RST", its rows in the order that it gives them
 abbrev pub row : Bool → Bool → Bool → Bool → InterfaceState
@@ -26,7 +32,8 @@ row false false true true = Unexpected
 
 -- the flags as a number's digits are read: B_UP, B_RST, H_UP, H_RST
 abbrev pub flagsOf : Bool → Bool → Bool → Bool → Flags
-flagsOf bUp bRst hUp hRst = record { «controller_up» = bUp; «controller_reset» = bRst; «host_up» = hUp; «host_reset» = hRst }
+flagsOf bUp bRst hUp hRst =
+    record { «controller_up» = bUp; «controller_reset» = bRst; «host_up» = hUp; «host_reset» = hRst }
 
 -- "1010 normal runtime; 1011 reset asked by host; 1110 reset asked by controller"
 abbrev pub normalRuntime : Flags
@@ -42,8 +49,8 @@ askedByController = flagsOf true true true false
 unfoldable pub stateOf : Flags → InterfaceState
 stateOf f = row (f .«controller_up») (f .«controller_reset») (f .«host_up») (f .«host_reset»)
 
--- "1000 initialization completed; 1010 normal runtime; 1011 reset asked by host; 1110 reset asked by controller; 1111 reset acknowledged;
--- the rest transient."
+-- "1000 initialization completed; 1010 normal runtime; 1011 reset asked by host; 1110 reset asked by controller; 1111
+-- reset acknowledged; the rest transient."
 abbrev pub isTransient : InterfaceState → Bool
 isTransient InitializationInProgress = true
 isTransient InitializationCompleted = false

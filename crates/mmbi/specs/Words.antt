@@ -6,7 +6,8 @@ use lib.Dec.{eqb}
 use Rattle.octets.specs.Choice.{pick}
 use Rattle.mmbi.specs.declared.word.Word.{Word}
 
--- "[31:2] .. Bits [31:2] of the offset .. Bits [1:0] of the offset are assumed to always be zero (for 4-byte alignment)."
+-- "[31:2] .. Bits [31:2] of the offset .. Bits [1:0] of the offset are assumed to always be zero (for 4-byte
+-- alignment)."
 abbrev pub pointerIn : ℕ → ℕ
 pointerIn n = n / 4 * 4
 
@@ -14,7 +15,8 @@ pointerIn n = n / 4 * 4
 abbrev pub highIn : ℕ → Bool
 highIn n = eqb (n / 2 % 2) 1
 
--- "[0] Host Reset Request (H_RST)", "[0] (B)MC Reset Request (B_RST)", and in the second words "[0] Host Ready (H_RDY)", "[0] (B)MC Ready (B_RDY)"
+-- "[0] Host Reset Request (H_RST)", "[0] (B)MC Reset Request (B_RST)", and in the second words "[0] Host Ready
+-- (H_RDY)", "[0] (B)MC Ready (B_RDY)"
 abbrev pub lowIn : ℕ → Bool
 lowIn n = eqb (n % 2) 1
 

@@ -24,7 +24,8 @@ laid-append l at (x ∷ a) b = rw (laid-append (set l at x) (suc at) a b, suc-ad
 
 -- four bytes, one after the other
 pub laid-four : (l : List ℕ) (at a b c d : ℕ)
-    → laid (laid (laid (laid l at (a ∷ [])) (at + 1) (b ∷ [])) (at + 2) (c ∷ [])) (at + 3) (d ∷ []) ≡ laid l at (a ∷ b ∷ c ∷ d ∷ [])
+    → laid (laid (laid (laid l at (a ∷ [])) (at + 1) (b ∷ [])) (at + 2) (c ∷ [])) (at + 3) (d ∷ [])
+    ≡ laid l at (a ∷ b ∷ c ∷ d ∷ [])
 unfolding laid
 laid-four l at a b c d =
     let one : at + 1 ≡ suc at = omega arith in

@@ -11,12 +11,22 @@ use Rattle.octets.specs.Bytes.{Below}
 use Rattle.octets.specs.Words.{Order, lowFirst, highFirst, value, wordAt, wordBytes}
 
 -- the word's four bytes make the word again
-bytes-value : (w : ℕ) → w < 2 ^ 32 → value ((w % 256) ∷ (w / 256 % 256) ∷ (w / 65536 % 256) ∷ (w / 16777216 % 256) ∷ []) ≡ w
+bytes-value : (w : ℕ) → w < 2 ^ 32
+    → value ((w % 256) ∷ (w / 256 % 256) ∷ (w / 65536 % 256) ∷ (w / 16777216 % 256) ∷ []) ≡ w
 bytes-value w h =
     let two : w / 65536 ≡ w / 256 / 256 = sym (div-div-eq-div-mul w 256 256) in
-    let three : w / 16777216 ≡ w / 256 / 256 / 256 = sym (ap (λ (q : ℕ). q / 256) (div-div-eq-div-mul w 256 256) ∙ div-div-eq-div-mul w 65536 256) in
+    let three : w / 16777216 ≡ w / 256 / 256 / 256 =
+    sym (ap (λ (q : ℕ). q / 256) (div-div-eq-div-mul w 256 256) ∙ div-div-eq-div-mul w 65536 256) in
     let top : w / 256 / 256 / 256 < 256 = omega arith in
-    rw (two, three, mod-eq-of-lt top, mul-zero 256, add-zero (w / 256 / 256 / 256), mod-add-div (w / 256 / 256) 256, mod-add-div (w / 256) 256) (mod-add-div w 256)
+    rw (
+      two,
+      three,
+      mod-eq-of-lt top,
+      mul-zero 256,
+      add-zero (w / 256 / 256 / 256),
+      mod-add-div (w / 256 / 256) 256,
+      mod-add-div (w / 256) 256,
+    ) (mod-add-div w 256)
 
 -- a word that stands at the front reads back
 pub word-back : (o : Order) (w : ℕ) (rest : List ℕ) → w < 2 ^ 32 → wordAt o (wordBytes o w ++ rest) 0 ≡ w
@@ -25,14 +35,16 @@ word-back lowFirst w rest h = bytes-value w h
 word-back highFirst w rest h = bytes-value w h
 
 -- the same four bytes make the same word
-pub word-same : (o : Order) (s t : List ℕ) (i j : ℕ) → ((k : ℕ) → getD s (i + k) 0 ≡ getD t (j + k) 0) → wordAt o s i ≡ wordAt o t j
+pub word-same : (o : Order) (s t : List ℕ) (i j : ℕ) → ((k : ℕ) → getD s (i + k) 0 ≡ getD t (j + k) 0)
+    → wordAt o s i ≡ wordAt o t j
 unfolding wordAt
 word-same lowFirst s t i j e = cc (simp add-zero at (e 0), e 1, e 2, e 3)
 word-same highFirst s t i j e = cc (simp add-zero at (e 0), e 1, e 2, e 3)
 
 -- what stands in front of a list moves its words on
 pub word-after : (o : Order) (a s : List ℕ) (at : ℕ) → wordAt o (a ++ s) (length a + at) ≡ wordAt o s at
-word-after o a s at = word-same o (a ++ s) s (length a + at) at (λ (k : ℕ). rw add-assoc (getD-append-add a s (at + k) 0))
+word-after o a s at =
+    word-same o (a ++ s) s (length a + at) at (λ (k : ℕ). rw add-assoc (getD-append-add a s (at + k) 0))
 
 -- a word of no bytes is 0
 none : (o : Order) → wordAt o [] 0 ≡ 0

@@ -1,3 +1,4 @@
 pub mod Choice
+pub mod Checks
 pub mod Bytes
 pub mod Words

@@ -12,7 +12,8 @@ use Rattle.pcc.specs.declared.answer.Written.{Written}
 use Rattle.pcc.specs.declared.answer.Written.the-variants as written
 use Rattle.pcc.specs.Answers.{says, numberWritten}
 
-module _ (most : ℕ) (region : List ℕ) (id : ℕ) {c d : Carried} (told : says c ≡ readOf most region id) (is : c ≡ d) where
+module _ (most : ℕ) (region : List ℕ) (id : ℕ) {c d : Carried} (told : says c ≡ readOf most region id)
+    (is : c ≡ d) where
   same : says d ≡ readOf most region id
   same = sym (ap says is) ∙ told
 

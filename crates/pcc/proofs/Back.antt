@@ -88,7 +88,8 @@ module _ (id : ℕ) (notify : Bool) (packet rest : List ℕ) where
     front-notify = rw (front-number, word-4) (flags-bit notify)
 
 -- what is written reads back the same, under the same id
-module _ (most : ℕ) (region : List ℕ) (id : ℕ) (notify : Bool) (packet : List ℕ) (allowed : writeRefusal most (length region) id (length packet) ≡ 0) where
+module _ (most : ℕ) (region : List ℕ) (id : ℕ) (notify : Bool) (packet : List ℕ)
+    (allowed : writeRefusal most (length region) id (length packet) ≡ 0) where
   rest : List ℕ
   rest = drop (length (regionOf id notify packet)) region
 
@@ -100,7 +101,13 @@ module _ (most : ℕ) (region : List ℕ) (id : ℕ) (notify : Bool) (packet : L
   unfolding regionOf wordBytes rest
   room =
       let w = writable most (length region) id (length packet) allowed in
-      record { body = w .body; subspace = w .subspace; least = w .least; greatest = w .greatest; held = simp length-drop (omega arith) }
+      record {
+        body = w .body;
+        subspace = w .subspace;
+        least = w .least;
+        greatest = w .greatest;
+        held = simp length-drop (omega arith);
+      }
 
   pub back-number : refusalOf most (writtenOf most region id notify packet) id ≡ 0
   back-number = rw whole (front-number id notify packet rest most room)
@@ -112,7 +119,8 @@ module _ (most : ℕ) (region : List ℕ) (id : ℕ) (notify : Bool) (packet : L
   back-notify = rw whole (front-notify id notify packet rest most room)
 
 -- "Every packet of 5 to 68 bytes has a good arrival on each path", here of the least region that holds it
-module _ (most id : ℕ) (notify : Bool) (packet : List ℕ) (body : mostRight most ≡ true) (subspace : id ≤ 255) (sized : packetSize most (length packet) ≡ true) where
+module _ (most id : ℕ) (notify : Bool) (packet : List ℕ) (body : mostRight most ≡ true) (subspace : id ≤ 255)
+    (sized : packetSize most (length packet) ≡ true) where
   zeros : List ℕ
   zeros = replicate (84 - (16 + length packet)) 0
 
@@ -120,7 +128,13 @@ module _ (most id : ℕ) (notify : Bool) (packet : List ℕ) (body : mostRight m
   unfolding zeros
   fitting =
       let bounds = within-bounds 5 (4 + most) (length packet) sized in
-      record { body = body; subspace = subspace; least = bounds .0; greatest = bounds .1; held = simp length-replicate (omega arith) }
+      record {
+        body = body;
+        subspace = subspace;
+        least = bounds .0;
+        greatest = bounds .1;
+        held = simp length-replicate (omega arith);
+      }
 
   pub every-length : length (regionFor id notify packet) ≡ roomFor (length packet)
   unfolding regionFor

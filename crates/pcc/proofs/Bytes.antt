@@ -20,7 +20,8 @@ front-bytes id notify packet h =
     let from-8 = wordBytes lowFirst (lengthOf (length packet)) ++ from-12 in
     let from-4 = wordBytes lowFirst (flagsOf notify) ++ from-8 in
     word-before (signatureOf id) from-4
-    (word-before (flagsOf notify) from-8 (word-before (lengthOf (length packet)) from-12 (word-before command packet h)))
+    (word-before (flagsOf notify) from-8
+    (word-before (lengthOf (length packet)) from-12 (word-before command packet h)))
 
 pub every-bytes : (id : ℕ) (notify : Bool) (packet : List ℕ) → Below 256 packet → Below 256 (regionFor id notify packet)
 unfolding regionFor

@@ -20,7 +20,8 @@ use Rattle.pcc.proofs.writer.write.Reads as writing
 
 -- what an answer says is the whole answer
 says-injective : (c d : Carried) → says c ≡ says d → c ≡ d
-says-injective (carried.Packet size notify) (carried.Packet size' notify') e = λ i. carried.Packet (e i .size) (e i .notify)
+says-injective (carried.Packet size notify) (carried.Packet size' notify') e =
+    λ i. carried.Packet (e i .size) (e i .notify)
 says-injective (carried.Packet size notify) (carried.Refused why) e =
     absurd (let n = ap (λ (r : Read). r .number) e in omega (arith, number-positive why))
 says-injective (carried.Refused why) (carried.Packet size notify) e =

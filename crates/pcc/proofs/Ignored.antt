@@ -26,18 +26,36 @@ low-bit s = omega arith
 module _ {most id : ℕ} {a b : List ℕ} (same : Alike most id a b) where
   signatures-same : wordAt lowFirst a 0 ≡ wordAt lowFirst b 0
   unfolding wordAt
-  signatures-same = cc (same .signatures 0 (lit< tt), same .signatures 1 (lit< tt), same .signatures 2 (lit< tt), same .signatures 3 (lit< tt))
+  signatures-same =
+      cc (
+        same .signatures 0 (lit< tt),
+        same .signatures 1 (lit< tt),
+        same .signatures 2 (lit< tt),
+        same .signatures 3 (lit< tt),
+      )
 
   header : (i : ℕ) → 8 ≤ i → i < 16 → getD a i 0 ≡ getD b i 0
   header i h k = same .up-to-packet i h (omega arith)
 
   lengths-same : wordAt lowFirst a 8 ≡ wordAt lowFirst b 8
   unfolding wordAt
-  lengths-same = cc (header 8 (lit≤ tt) (lit< tt), header 9 (lit≤ tt) (lit< tt), header 10 (lit≤ tt) (lit< tt), header 11 (lit≤ tt) (lit< tt))
+  lengths-same =
+      cc (
+        header 8 (lit≤ tt) (lit< tt),
+        header 9 (lit≤ tt) (lit< tt),
+        header 10 (lit≤ tt) (lit< tt),
+        header 11 (lit≤ tt) (lit< tt),
+      )
 
   commands-same : wordAt lowFirst a 12 ≡ wordAt lowFirst b 12
   unfolding wordAt
-  commands-same = cc (header 12 (lit≤ tt) (lit< tt), header 13 (lit≤ tt) (lit< tt), header 14 (lit≤ tt) (lit< tt), header 15 (lit≤ tt) (lit< tt))
+  commands-same =
+      cc (
+        header 12 (lit≤ tt) (lit< tt),
+        header 13 (lit≤ tt) (lit< tt),
+        header 14 (lit≤ tt) (lit< tt),
+        header 15 (lit≤ tt) (lit< tt),
+      )
 
   numbers-same : refusalOf most a id ≡ refusalOf most b id
   unfolding refusalOf
@@ -58,7 +76,12 @@ module _ {most id : ℕ} {a b : List ℕ} (same : Alike most id a b) where
       (simp (length-take, length-drop) (ap (λ (n : ℕ). min (sizeOf most a id) (n - 16)) (same .lengths)))
       (λ i h.
       let k : i < sizeOf most a id = omega (arith, simp length-take at h) in
-      rw (getD-take (sizeOf most a id) (drop 16 a) i 0 k, getD-take (sizeOf most a id) (drop 16 b) i 0 k, getD-drop 16 a i 0, getD-drop 16 b i 0)
+      rw (
+        getD-take (sizeOf most a id) (drop 16 a) i 0 k,
+        getD-take (sizeOf most a id) (drop 16 b) i 0 k,
+        getD-drop 16 a i 0,
+        getD-drop 16 b i 0,
+      )
       (same .up-to-packet (16 + i) (omega arith) (omega arith)))
       ∙ ap (partOf b) sizes-same
 
@@ -80,7 +103,8 @@ module _ (most id : ℕ) (a b : List ℕ) (lengths : length a ≡ length b) wher
       → getD a 4 0 % 2 ≡ getD b 4 0 % 2
       → ((i : ℕ) → 8 ≤ i → getD a i 0 ≡ getD b i 0)
       → SameAnswers most id a b
-  flags-ignored front bit behind = ignored (record { lengths = lengths; signatures = front; bit-0 = bit; up-to-packet = λ i h k. behind i h })
+  flags-ignored front bit behind =
+      ignored (record { lengths = lengths; signatures = front; bit-0 = bit; up-to-packet = λ i h k. behind i h })
 
   -- "bytes after the packet are neither read .."
   pub behind-not-read : ((i : ℕ) → i < 16 + sizeOf most a id → getD a i 0 ≡ getD b i 0) → SameAnswers most id a b
@@ -101,7 +125,8 @@ module _ (most : ℕ) (region : List ℕ) (id : ℕ) (notify : Bool) (packet : L
       → P (writtenOf most region id notify packet)
   either P kept whole =
       by-cases (decLt 0 (writeRefusal most (length region) id (length packet)))
-      (λ (h : 0 < writeRefusal most (length region) id (length packet)). rw (written-refused region packet id notify most (omega arith)) kept)
+      (λ (h : 0 < writeRefusal most (length region) id (length packet)). rw
+      (written-refused region packet id notify most (omega arith)) kept)
       (λ (h : 0 < writeRefusal most (length region) id (length packet) → ⊥).
       let e : writeRefusal most (length region) id (length packet) ≡ 0 = omega arith in
       rw (written-whole region packet id notify most e) (whole (writable most (length region) id (length packet) e)))
@@ -110,13 +135,15 @@ module _ (most : ℕ) (region : List ℕ) (id : ℕ) (notify : Bool) (packet : L
   unfolding regionOf wordBytes
   front-size = omega arith
 
-  pub behind-not-written : drop (16 + length packet) (writtenOf most region id notify packet) ≡ drop (16 + length packet) region
+  pub behind-not-written : drop (16 + length packet) (writtenOf most region id notify packet)
+      ≡ drop (16 + length packet) region
   unfolding fronted
   behind-not-written =
       either (λ r. drop (16 + length packet) r ≡ drop (16 + length packet) region)
       refl
       (λ w.
-      drop-at (regionOf id notify packet) (drop (length (regionOf id notify packet)) region) (16 + length packet) front-size
+      drop-at (regionOf id notify packet) (drop (length (regionOf id notify packet)) region)
+      (16 + length packet) front-size
       ∙ ap (λ (n : ℕ). drop n region) front-size)
 
   pub length-stays : length (writtenOf most region id notify packet) ≡ length region

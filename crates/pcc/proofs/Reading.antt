@@ -37,7 +37,13 @@ module _ (most : ℕ) (region : List ℕ) (id : ℕ) where
         -- 9: another word at 0
         pub signature : (wordAt lowFirst region 0 ≡ signatureOf id → ⊥) → refusalOf most region id ≡ 9
         unfolding refusalOf
-        signature h = rw (body, le-ltb 255 id subspace, le-ltb (length region) 84 large, ne-eqb (wordAt lowFirst region 0) (signatureOf id) h)
+        signature h =
+            rw (
+              body,
+              le-ltb 255 id subspace,
+              le-ltb (length region) 84 large,
+              ne-eqb (wordAt lowFirst region 0) (signatureOf id) h,
+            )
 
         module _ (signed : wordAt lowFirst region 0 ≡ signatureOf id) where
           -- 5: another word at 12
@@ -54,7 +60,8 @@ module _ (most : ℕ) (region : List ℕ) (id : ℕ) where
 
           module _ (commanded : wordAt lowFirst region 12 ≡ command) where
             -- past all checks but the last
-            last : (t : Bool) → within 9 (longest most (length region)) (wordAt lowFirst region 8) ≡ t → refusalOf most region id ≡ pick (not t) 3 0
+            last : (t : Bool) → within 9 (longest most (length region)) (wordAt lowFirst region 8) ≡ t
+                → refusalOf most region id ≡ pick (not t) 3 0
             unfolding refusalOf
             last t e =
                 rw (
@@ -72,10 +79,13 @@ module _ (most : ℕ) (region : List ℕ) (id : ℕ) where
 
             -- 3: a length over 72, or more than the region holds
             pub long : longest most (length region) < wordAt lowFirst region 8 → refusalOf most region id ≡ 3
-            long h = last false (rw (lt-leb (wordAt lowFirst region 8) (longest most (length region)) h) (and-false (leb 9 (wordAt lowFirst region 8))))
+            long h =
+                last false (rw (lt-leb (wordAt lowFirst region 8) (longest most (length region)) h)
+                (and-false (leb 9 (wordAt lowFirst region 8))))
 
             -- 0: nothing to refuse
-            pub within-limits : 9 ≤ wordAt lowFirst region 8 → wordAt lowFirst region 8 ≤ longest most (length region) → refusalOf most region id ≡ 0
+            pub within-limits : 9 ≤ wordAt lowFirst region 8 → wordAt lowFirst region 8 ≤ longest most (length region)
+                → refusalOf most region id ≡ 0
             within-limits h k = last true (within-holds 9 (longest most (length region)) (wordAt lowFirst region 8) h k)
 
   -- a good region, fact by fact
@@ -105,12 +115,18 @@ module _ (most : ℕ) (region : List ℕ) (id : ℕ) where
   good-number g = within-limits (g .body) (g .subspace) (g .room) (g .signed) (g .commanded) (g .least) (omega arith)
 
   -- what is told where refused
-  pub told-refused : (n : ℕ) → refusalOf most region id ≡ suc n → readOf most region id ≡ record { number = suc n; size = 0; notify = false }
+  pub told-refused : (n : ℕ) → refusalOf most region id ≡ suc n
+      → readOf most region id ≡ record { number = suc n; size = 0; notify = false }
   unfolding readOf sizeOf notifyOf
   told-refused n e = rw (e, eqb·suc-zero n)
 
   -- and where good
-  pub told-good : refusalOf most region id ≡ 0 → readOf most region id ≡ record { number = 0; size = wordAt lowFirst region 8 - 4; notify = eqb (wordAt lowFirst region 4 % 2) 1 }
+  pub told-good : refusalOf most region id ≡ 0
+      → readOf most region id ≡ record {
+        number = 0;
+        size = wordAt lowFirst region 8 - 4;
+        notify = eqb (wordAt lowFirst region 4 % 2) 1;
+      }
   unfolding readOf sizeOf notifyOf
   told-good e = rw e
 

@@ -12,7 +12,8 @@ use Rattle.octets.specs.Words.{lowFirst, wordAt}
 use Rattle.mctp.specs.Packet.{mostRight}
 use Rattle.pcc.specs.Region.{signatureOf, command}
 use Rattle.pcc.specs.Reading.{longest, refusalOf}
-use Rattle.pcc.specs.Reasons.{Reason, other-body, id-over-255, under-84, other-signature, other-command, under-9, over-longest, nothing}
+use Rattle.pcc.specs.Reasons.{Reason, other-body, id-over-255, under-84, other-signature, other-command, under-9}
+use Rattle.pcc.specs.Reasons.{over-longest, nothing}
 use Rattle.pcc.proofs.Reading as reading
 
 module _ (most : ℕ) (region : List ℕ) (id : ℕ) where
@@ -35,8 +36,19 @@ module _ (most : ℕ) (region : List ℕ) (id : ℕ) where
       (λ (l : wordAt lowFirst region 8 < 9 → ⊥).
       by-cases (decLt (longest most (length region)) (wordAt lowFirst region 8))
       (λ (h : longest most (length region) < wordAt lowFirst region 8). (3, over-longest b i r s c h))
-      (λ (m : longest most (length region) < wordAt lowFirst region 8 → ⊥).
-      (0, nothing (record { body = b; subspace = i; room = r; signed = s; commanded = c; least = omega arith; greatest = omega arith; held = omega arith }))))
+      (λ (m : longest most (length region) < wordAt lowFirst region 8 → ⊥). (
+        0,
+        nothing (record {
+          body = b;
+          subspace = i;
+          room = r;
+          signed = s;
+          commanded = c;
+          least = omega arith;
+          greatest = omega arith;
+          held = omega arith;
+        }),
+      )))
 
   past-room : mostRight most ≡ true → id ≤ 255 → 84 ≤ length region → (n : ℕ) × Reason most region id n
   past-room b i r =

@@ -31,7 +31,8 @@ module _ (most room id size : ℕ) where
 
     module _ (subspace : id ≤ 255) where
       -- past the set-up, by the packet's size
-      sized : (t : Bool) → packetSize most size ≡ t → writeRefusal most room id size ≡ pick (not t) 3 (pick (ltb room (roomFor size)) 2 0)
+      sized : (t : Bool) → packetSize most size ≡ t
+          → writeRefusal most room id size ≡ pick (not t) 3 (pick (ltb room (roomFor size)) 2 0)
       unfolding writeRefusal
       sized t e = rw (body, le-ltb 255 id subspace, e)
 
@@ -91,11 +92,15 @@ module _ (region packet : List ℕ) (id : ℕ) (notify : Bool) where
       ∙ laid-front region (regionOf id notify packet) (omega arith)
 
   -- written where nothing is refused
-  pub written-whole : (most : ℕ) → writeRefusal most (length region) id (length packet) ≡ 0 → writtenOf most region id notify packet ≡ fronted region (regionOf id notify packet)
+  pub written-whole : (most : ℕ) → writeRefusal most (length region) id (length packet) ≡ 0
+      → writtenOf most region id notify packet ≡ fronted region (regionOf id notify packet)
   unfolding writtenOf
   written-whole most e = rw e
 
   -- else all unchanged
-  pub written-refused : (most : ℕ) → 1 ≤ writeRefusal most (length region) id (length packet) → writtenOf most region id notify packet ≡ region
+  pub written-refused : (most : ℕ) → 1 ≤ writeRefusal most (length region) id (length packet)
+      → writtenOf most region id notify packet ≡ region
   unfolding writtenOf
-  written-refused most h = rw (ne-eqb (writeRefusal most (length region) id (length packet)) 0 (λ (e : writeRefusal most (length region) id (length packet) ≡ 0). omega arith))
+  written-refused most h =
+      rw (ne-eqb (writeRefusal most (length region) id (length packet)) 0
+      (λ (e : writeRefusal most (length region) id (length packet) ≡ 0). omega arith))

@@ -6,7 +6,8 @@ use mathlib.Core.List.{List}
 use lib.ListN.{length, getD}
 use Rattle.pcc.specs.Reading.{refusalOf, sizeOf, packetOf, notifyOf, readOf}
 
--- "bit 0 is notify on completion .. the others are ignored in reading", "bytes after the packet are neither read nor written"
+-- "bit 0 is notify on completion .. the others are ignored in reading", "bytes after the packet are neither read nor
+-- written"
 pub record Alike (most id : ℕ) (a b : List ℕ) : Type 0 where
   pub lengths : length a ≡ length b
   pub signatures : (i : ℕ) → i < 4 → getD a i 0 ≡ getD b i 0

@@ -11,7 +11,8 @@ use Rattle.octets.specs.Words.{lowFirst, wordAt}
 use Rattle.mctp.specs.Packet.{mostRight}
 use Rattle.pcc.specs.Region.{signatureOf, command}
 
--- "length not 9 to 72": 72 is 8 + the largest body; what the region cannot hold after its first 12 bytes is too long as well
+-- "length not 9 to 72": 72 is 8 + the largest body; what the region cannot hold after its first 12 bytes is too long as
+-- well
 abbrev pub longest : ℕ → ℕ → ℕ
 longest most room = min (8 + most) (room - 12)
 
@@ -49,7 +50,8 @@ pub record Read : Type 0 where
   pub notify : Bool
 
 unfoldable pub readOf : ℕ → List ℕ → ℕ → Read
-readOf most region id = record { number = refusalOf most region id; size = sizeOf most region id; notify = notifyOf most region id }
+readOf most region id =
+    record { number = refusalOf most region id; size = sizeOf most region id; notify = notifyOf most region id }
 
 -- what makes a region good
 pub record Good (most : ℕ) (region : List ℕ) (id : ℕ) : Type 0 where

@@ -11,7 +11,8 @@ use Rattle.octets.specs.Bytes.{fronted}
 use Rattle.mctp.specs.Packet.{mostRight, packetSize}
 use Rattle.pcc.specs.Region.{regionOf, roomFor}
 
--- "Writing: 1, 3, 2 (region under 84).", of a region of `room` bytes and a packet of `size`: "All three writers look at a packet's size only"
+-- "Writing: 1, 3, 2 (region under 84).", of a region of `room` bytes and a packet of `size`: "All three writers look at
+-- a packet's size only"
 unfoldable pub writeRefusal : ℕ → ℕ → ℕ → ℕ → ℕ
 writeRefusal most room id size =
     pick (not (mostRight most)) 1
@@ -23,7 +24,8 @@ writeRefusal most room id size =
 -- the region afterwards: "bytes after the packet are neither read nor written"; where refused, all unchanged
 unfoldable pub writtenOf : ℕ → List ℕ → ℕ → Bool → List ℕ → List ℕ
 writtenOf most region id notify packet =
-    pick (eqb (writeRefusal most (length region) id (length packet)) 0) (fronted region (regionOf id notify packet)) region
+    pick (eqb (writeRefusal most (length region) id (length packet)) 0)
+    (fronted region (regionOf id notify packet)) region
 
 -- what may be written
 pub record Writable (most room id size : ℕ) : Type 0 where

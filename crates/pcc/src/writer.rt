@@ -15,14 +15,16 @@ ghost use Rattle.pcc.specs.Answers.{numberWritten};
 
 // The packet written under this id; where refused the region stays as it was.
 pub fn write(region: &mut [u8], id: u32, notify: bool, packet: &[u8]) -> Written
-    ensures { λ r. ⌜ numberWritten r ≡ writeRefusal 64 (length (now (region .entry))) id (length (now (packet .entry))) ⌝ }
+    ensures { λ r. ⌜ numberWritten r ≡ writeRefusal 64 (length (now (region .entry))) id
+        (length (now (packet .entry))) ⌝ }
     ensures { λ _. ⌜ now (region .exit) ≡ writtenOf 64 (now (region .entry)) id notify (now (packet .entry)) ⌝ }
 {
     write_up_to(LARGEST_BODY, region, id, notify, packet)
 }
 
 fn write_up_to(most: usize, region: &mut [u8], id: u32, notify: bool, packet: &[u8]) -> Written
-    ensures { λ r. ⌜ numberWritten r ≡ writeRefusal most (length (now (region .entry))) id (length (now (packet .entry))) ⌝ }
+    ensures { λ r. ⌜ numberWritten r ≡ writeRefusal most (length (now (region .entry))) id
+        (length (now (packet .entry))) ⌝ }
     ensures { λ _. ⌜ now (region .exit) ≡ writtenOf most (now (region .entry)) id notify (now (packet .entry)) ⌝ }
 {
     let allowed = may_write(most, region.len(), id, packet.len());

@@ -36,7 +36,8 @@ checked-of s h e =
 
 pub checked-last : (s : List ℕ) → Checked s → getD s (length s - 1) 0 ≡ pecOf (take (length s - 1) s)
 checked-last s k =
-    let n : length (k .rest) ≡ length s - 1 = omega (arith, ap length (k .ends) ∙ length-append (k .rest) (pecOf (k .rest) ∷ [])) in
+    let n : length (k .rest) ≡ length s - 1 =
+    omega (arith, ap length (k .ends) ∙ length-append (k .rest) (pecOf (k .rest) ∷ [])) in
     ap (λ (t : List ℕ). getD t (length s - 1) 0) (k .ends)
     ∙ getD-at (k .rest) (pecOf (k .rest)) [] 0 (length s - 1) n
     ∙ ap pecOf (sym (take-at (k .rest) (pecOf (k .rest) ∷ []) (length s - 1) n)
@@ -68,7 +69,8 @@ eight-zero r h e =
 -- A checked list has the PEC 0.
 pub checked-zero : (s : List ℕ) → Checked s → pecOf s ≡ 0
 unfolding byteStep eightSteps polyStep
-checked-zero s k = ap pecOf (k .ends) ∙ pec-last (k .rest) (pecOf (k .rest)) ∙ ap eightSteps (xor-self (pecOf (k .rest)))
+checked-zero s k =
+    ap pecOf (k .ends) ∙ pec-last (k .rest) (pecOf (k .rest)) ∙ ap eightSteps (xor-self (pecOf (k .rest)))
 
 -- And a list of bytes, one or more, that has the PEC 0 is checked.
 pub zero-checked : (s : List ℕ) → Bytes s → 0 < length s → pecOf s ≡ 0 → Checked s

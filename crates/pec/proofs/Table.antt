@@ -12,7 +12,8 @@ use Rattle.pec.proofs.Tests.{both}
 
 entry-from : (xs : List ℕ) (i : ℕ) → T (entriesRight i xs) → (k : ℕ) → k < length xs → getD xs k 0 ≡ eightSteps (i + k)
 entry-from [] i t k h = absurd (not-suc-le-zero h)
-entry-from (x ∷ xs) i t zero h = rw add-zero (eqb→eq x (eightSteps i) (both (eqb x (eightSteps i)) (entriesRight (suc i) xs) t .0))
+entry-from (x ∷ xs) i t zero h =
+    rw add-zero (eqb→eq x (eightSteps i) (both (eqb x (eightSteps i)) (entriesRight (suc i) xs) t .0))
 entry-from (x ∷ xs) i t (suc k) h =
     entry-from xs (suc i) (both (eqb x (eightSteps i)) (entriesRight (suc i) xs) t .1) k (le-of-suc-le-suc h)
     ∙ rw (suc-add, add-suc)

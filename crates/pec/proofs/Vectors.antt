@@ -1,4 +1,5 @@
--- The PECs that document 01 gives ("Numbers to check"), as the definitions give them: a reader's first check of the definitions.
+-- The PECs that document 01 gives ("Numbers to check"), as the definitions give them: a reader's first check of the
+-- definitions.
 -- Assumes nothing.
 use mathlib.Core.Path.{_≡_, refl}
 use mathlib.Core.List.{[], _∷_}

@@ -38,7 +38,8 @@ unfolding wire bitsOf
 wire-length [] [] e = refl
 wire-length [] (b ∷ t) e = absurd (omega arith)
 wire-length (a ∷ s) [] e = absurd (omega arith)
-wire-length (a ∷ s) (b ∷ t) e = ap (λ (n : ℕ). suc (suc (suc (suc (suc (suc (suc (suc n)))))))) (wire-length s t (omega arith))
+wire-length (a ∷ s) (b ∷ t) e =
+    ap (λ (n : ℕ). suc (suc (suc (suc (suc (suc (suc (suc n)))))))) (wire-length s t (omega arith))
 
 -- taken part by part,
 pub wire-append : (s t : List ℕ) → wire (s ++ t) ≡ wire s ++ wire t
@@ -64,7 +65,8 @@ unfolding valueRight
 value b h = eqb→eq (valueOf b) b (passed valueRight 256 value-test b h)
 
 -- and the same only for the same bytes.
-pub wire-injective : (s t : List ℕ) → length s ≡ length t → Bytes s → Bytes t → ((k : ℕ) → getD (wire s) k 0 ≡ getD (wire t) k 0) → s ≡ t
+pub wire-injective : (s t : List ℕ) → length s ≡ length t → Bytes s → Bytes t
+    → ((k : ℕ) → getD (wire s) k 0 ≡ getD (wire t) k 0) → s ≡ t
 unfolding wire bitsOf valueOf
 wire-injective [] [] e h l w = refl
 wire-injective [] (b ∷ t) e h l w = absurd (omega arith)
@@ -73,7 +75,8 @@ wire-injective (a ∷ s) (b ∷ t) e h l w =
     let values : valueOf a ≡ valueOf b =
     λ i. w 0 i * 128 + w 1 i * 64 + w 2 i * 32 + w 3 i * 16 + w 4 i * 8 + w 5 i * 4 + w 6 i * 2 + w 7 i in
     ap₂ {A = ℕ} {B = List ℕ} {C = List ℕ} (λ x xs. x ∷ xs) (sym (value a (h 0)) ∙ values ∙ value b (l 0))
-    (wire-injective s t (omega arith) (λ i. h (suc i)) (λ i. l (suc i)) (λ k. w (suc (suc (suc (suc (suc (suc (suc (suc k))))))))))
+    (wire-injective s t (omega arith) (λ i. h (suc i)) (λ i. l (suc i))
+    (λ k. w (suc (suc (suc (suc (suc (suc (suc (suc k))))))))))
 
 -- The wire bits of a sum are the sum of the wire bits,
 pub wire-plus : (s t : List ℕ) → wire (plus s t) ≡ plus (wire s) (wire t)

@@ -1,4 +1,5 @@
--- The PEC, the check byte of an SMBus frame, from its polynomial alone: bit by bit, with no table. Document 01, "SMBus frame".
+-- The PEC, the check byte of an SMBus frame, from its polynomial alone: bit by bit, with no table. Document 01, "SMBus
+-- frame".
 -- Assumes nothing.
 use mathlib.Core.List.{List, foldl}
 use Prim.Native.Nat.{ℕ, _*_, _/_, _%_}

@@ -1,4 +1,5 @@
--- The test of the remainder table, which antt computes over the whole of it. Document 01, "Some places and their forms".
+-- The test of the remainder table, which antt computes over the whole of it. Document 01, "Some places and their
+-- forms".
 -- Assumes nothing.
 use mathlib.Core.Bool.{Bool, true, _&&_}
 use mathlib.Core.List.{List, [], _∷_}

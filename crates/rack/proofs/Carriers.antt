@@ -42,7 +42,8 @@ use Rattle.rack.specs.Arrivals.{Carried, packet, none, without, smbusCar
 not-zero : (why : Refusal) {n : ℕ} → n ≡ numberOf why → n ≡ 0 → ⊥
 not-zero why e z = omega (arith, number-positive why)
 
-module _ (most : ℕ) (f : List ℕ) (own : ℕ) (c : smbus.Carried) (says : smbus-says.saysCarried c ≡ smbus-says.carriedOf most f own) where
+module _ (most : ℕ) (f : List ℕ) (own : ℕ) (c : smbus.Carried)
+    (says : smbus-says.saysCarried c ≡ smbus-says.carriedOf most f own) where
   pub smbus-none : (why : Refusal) → c ≡ smbus-case.Refused why → smbusCarries most f own ≡ none (without (whySmbus c))
   unfolding smbusCarries
   smbus-none why is =
@@ -52,7 +53,11 @@ module _ (most : ℕ) (f : List ℕ) (own : ℕ) (c : smbus.Carried) (says : smb
   pub smbus-packet : (a : ℕ) → c ≡ smbus-case.Packet a → smbusCarries most f own ≡ packet (frame.partOf f) (Source a)
   unfolding smbusCarries
   smbus-packet a is =
-      rw (eq-eqb (frame.refusalOf most f own) 0 (told-good most f own c says a is), told-packet most f own c says a is, told-source most f own c says a is)
+      rw (
+        eq-eqb (frame.refusalOf most f own) 0 (told-good most f own c says a is),
+        told-packet most f own c says a is,
+        told-source most f own c says a is,
+      )
 
 module _ (most : ℕ) (r : List ℕ) (id : ℕ) (c : pcc.Carried) (says : pcc-says.says c ≡ region.readOf most r id) where
   pub pcc-none : (why : Refusal) → c ≡ pcc-case.Refused why → pccCarries most r id ≡ none (without (whyPcc c))
@@ -61,7 +66,8 @@ module _ (most : ℕ) (r : List ℕ) (id : ℕ) (c : pcc.Carried) (says : pcc-sa
       let n : region.refusalOf most r id ≡ numberOf why = sym (number-said most r id says is) in
       rw (ne-eqb (region.refusalOf most r id) 0 (not-zero why n), n, is)
 
-  pub pcc-packet : (size : ℕ) (notify : Bool) → c ≡ pcc-case.Packet size notify → pccCarries most r id ≡ packet (region.partOf r size) (Notify notify)
+  pub pcc-packet : (size : ℕ) (notify : Bool) → c ≡ pcc-case.Packet size notify
+      → pccCarries most r id ≡ packet (region.partOf r size) (Notify notify)
   unfolding pccCarries
   pcc-packet size notify is =
       let z : region.refusalOf most r id ≡ 0 = sym (number-said most r id says is) in
@@ -86,18 +92,21 @@ module _
     (read write : ℕ)
     (out after : List ℕ)
     (t : ring.Taken)
-    (told : ring-says.left (ring-says.saidOf t) after ≡ ring-says.readOf most bytes configured (mayRead (stateOf flags)) read write out)
+    (told : ring-says.left (ring-says.saidOf t) after
+    ≡ ring-says.readOf most bytes configured (mayRead (stateOf flags)) read write out)
   where
     -- the output afterwards
     pub ring-output : after ≡ ring-says.readOf most bytes configured (mayRead (stateOf flags)) read write out .output
     ring-output = ap (λ (l : ring-says.Left). l .output) told
 
     module _ (u : ring.Taken) (is : t ≡ u) where
-      said : ring-says.takenOf most bytes configured (mayRead (stateOf flags)) read write (length out) ≡ ring-says.saidOf u
+      said : ring-says.takenOf most bytes configured (mayRead (stateOf flags)) read write (length out)
+          ≡ ring-says.saidOf u
       said = sym (ap (λ (l : ring-says.Left). l .says) told) ∙ ap ring-says.saidOf is
 
       -- what the ring carries is what its answer says
-      pub ring-carries : ringCarries most bytes configured flags read write out ≡ ringSays (turn read bytes) (ring-says.saidOf u)
+      pub ring-carries : ringCarries most bytes configured flags read write out
+          ≡ ringSays (turn read bytes) (ring-says.saidOf u)
       unfolding ringCarries
       ring-carries = ap (ringSays (turn read bytes)) said
 
@@ -107,7 +116,9 @@ module _
 
     module _ (size next : ℕ) (is : t ≡ ring-case.Packet size next) where
       found : Good most bytes configured (mayRead (stateOf flags)) read write (length out) size next
-      found = good most bytes configured (mayRead (stateOf flags)) read write (length out) size next (said (ring-case.Packet size next) is)
+      found =
+          good most bytes configured (mayRead (stateOf flags)) read write (length out) size next
+          (said (ring-case.Packet size next) is)
 
       pub ring-fits : size ≤ length out
       ring-fits = omega (arith, found .room, found .header .largest)
@@ -115,12 +126,15 @@ module _
       sized : length (ring-packet.packetOf (turn read bytes)) ≡ size
       unfolding ring-packet.packetOf
       sized =
-          let short : 4 + size < length bytes = good-short most bytes configured (mayRead (stateOf flags)) read write (length out) size next found in
+          let short : 4 + size < length bytes =
+          good-short most bytes configured (mayRead (stateOf flags)) read write (length out) size next found in
           simp (length-take, length-drop, turn-length) (omega (arith, found .header .sized))
 
       -- the packet stands at the output's front
       pub ring-front : take size after ≡ ring-packet.packetOf (turn read bytes)
       unfolding fronted
       ring-front =
-          ap (take size) (ring-output ∙ ap (λ (w : ring-says.Said). ring-says.outputOf w (turn read bytes) out) (said (ring-case.Packet size next) is))
-          ∙ take-at (ring-packet.packetOf (turn read bytes)) (drop (length (ring-packet.packetOf (turn read bytes))) out) size sized
+          ap (take size) (ring-output ∙ ap (λ (w : ring-says.Said). ring-says.outputOf w (turn read bytes) out)
+          (said (ring-case.Packet size next) is))
+          ∙ take-at (ring-packet.packetOf (turn read bytes))
+          (drop (length (ring-packet.packetOf (turn read bytes))) out) size sized

@@ -41,7 +41,8 @@ without code.Empty = empty
 without (code.Skipped refusal next) = skipped (numberOf refusal) next
 without (code.Refused refusal) = refused (numberOf refusal)
 
--- what the carrier makes of an arrival. "It is good exactly if the reader gives a packet": here with what the carrier also knows
+-- what the carrier makes of an arrival. "It is good exactly if the reader gives a packet": here with what the carrier
+-- also knows
 pub data Carried : Type 0 where
   packet : List ℕ → Known → Carried
   none : Without → Carried

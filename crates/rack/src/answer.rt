@@ -3,7 +3,8 @@ use mctp::Refusal;
 use receiver::Answer;
 use slots::Receiver;
 
-// What the carrier knows beside the packet: the SMBus source address, the PCC notify flag, or the ring's new read pointer.
+// What the carrier knows beside the packet: the SMBus source address, the PCC notify flag, or the ring's new read
+// pointer.
 pub enum Known {
     Source(u8),
     Notify(bool),

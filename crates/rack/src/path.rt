@@ -15,7 +15,8 @@ ghost use Rattle.rack.specs.Answers.{left, arrivedOf};
 
 // A frame at our own address.
 pub fn from_smbus(frame: &[u8], own: u8, receiver: Receiver, memory: &mut [u8]) -> Outcome
-    ensures { λ r. ⌜ left r (now (memory .exit)) ≡ arrivedOf 64 receiver (now (memory .entry)) (smbusCarries 64 (now (frame .entry)) own) ⌝ }
+    ensures { λ r. ⌜ left r (now (memory .exit)) ≡ arrivedOf 64 receiver (now (memory .entry))
+        (smbusCarries 64 (now (frame .entry)) own) ⌝ }
 {
     let carried = smbus::carried(frame, own);
     let smbus::Carried::Packet { source } = carried else {
@@ -26,7 +27,8 @@ pub fn from_smbus(frame: &[u8], own: u8, receiver: Receiver, memory: &mut [u8]) 
 
 // A region under its subspace id.
 pub fn from_pcc(region: &[u8], id: u32, receiver: Receiver, memory: &mut [u8]) -> Outcome
-    ensures { λ r. ⌜ left r (now (memory .exit)) ≡ arrivedOf 64 receiver (now (memory .entry)) (pccCarries 64 (now (region .entry)) id) ⌝ }
+    ensures { λ r. ⌜ left r (now (memory .exit)) ≡ arrivedOf 64 receiver (now (memory .entry))
+        (pccCarries 64 (now (region .entry)) id) ⌝ }
 {
     let carried = pcc::carried(region, id);
     let pcc::Carried::Packet { size, notify } = carried else {
@@ -52,8 +54,10 @@ pub fn from_ring(
     receiver: Receiver,
     memory: &mut [u8],
 ) -> Outcome
-    ensures { λ r. ⌜ left r (now (memory .exit)) ≡ arrivedOf 64 receiver (now (memory .entry)) (ringCarries 64 (now (bytes .entry)) configured flags read write (now (out .entry))) ⌝ }
-    ensures { λ _. ⌜ now (out .exit) ≡ readOf 64 (now (bytes .entry)) configured (mayRead (stateOf flags)) read write (now (out .entry)) .output ⌝ }
+    ensures { λ r. ⌜ left r (now (memory .exit)) ≡ arrivedOf 64 receiver (now (memory .entry))
+        (ringCarries 64 (now (bytes .entry)) configured flags read write (now (out .entry))) ⌝ }
+    ensures { λ _. ⌜ now (out .exit) ≡ readOf 64 (now (bytes .entry)) configured (mayRead (stateOf flags)) read write
+        (now (out .entry)) .output ⌝ }
 {
     let taken = ring::read(bytes, configured, flags, read, write, out);
     let ring::Taken::Packet(size, next) = taken else {
@@ -73,7 +77,8 @@ fn no_packet(receiver: Receiver, why: NoPacket) -> Outcome
 
 // The packet given to the message rules.
 fn give(receiver: Receiver, memory: &mut [u8], packet: &[u8], known: Known) -> Outcome
-    ensures { λ r. ⌜ left r (now (memory .exit)) ≡ arrivedOf 64 receiver (now (memory .entry)) (carried (now (packet .entry)) known) ⌝ }
+    ensures { λ r. ⌜ left r (now (memory .exit)) ≡ arrivedOf 64 receiver (now (memory .entry))
+        (carried (now (packet .entry)) known) ⌝ }
 {
     let given = receiver::give(receiver, memory, packet);
     let answer = given.answer;

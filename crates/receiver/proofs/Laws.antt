@@ -27,7 +27,8 @@ use Rattle.receiver.specs.Step.{refused, answerOf, carried, stepOf}
 use Rattle.receiver.proofs.Laid.{laid-before, laid-behind}
 
 -- giving a packet is the decision carried out
-pub step-is-decision : (most : ℕ) (r : Receiver) (m p : List ℕ) → stepOf most r m p ≡ carried r m p (decided most r (length m) p)
+pub step-is-decision : (most : ℕ) (r : Receiver) (m p : List ℕ)
+    → stepOf most r m p ≡ carried r m p (decided most r (length m) p)
 unfolding stepOf
 step-is-decision most r m p = refl
 
@@ -39,13 +40,15 @@ step-is-plan κs a plan e p m n =
     ∙ ap (carried (a .0) m (a .1 .1 .0 .now)) (ap (λ (k : ℕ). decided 64 (a .0) k (a .1 .1 .0 .now)) n ∙ sym p)
 
 -- a right state stays right
-pub step-right : (most : ℕ) (r : Receiver) (m p : List ℕ) → rightState most r ≡ true → rightState most (stepOf most r m p .receiver) ≡ true
+pub step-right : (most : ℕ) (r : Receiver) (m p : List ℕ) → rightState most r ≡ true
+    → rightState most (stepOf most r m p .receiver) ≡ true
 unfolding stepOf
 step-right most r m p e =
     every-decision most r (length m) p (λ d. rightState most (carried r m p d .receiver) ≡ true)
     (λ n low high. e)
     (λ e i n h low high k. free-right most r i h e)
-    (λ e s i at again then f. right-holds most (withState r i then) (with-right most r (right-of most r e) i then (f .slot) (f .right) (f .alone)))
+    (λ e s i at again then f. right-holds most (withState r i then)
+    (with-right most r (right-of most r e) i then (f .slot) (f .right) (f .alone)))
 
 -- a body that is put is not refused
 put-answers : (then : SlotState) (i b : ℕ) (again : Bool) (n : ℕ) → answerOf then i b again ≡ refused n → ⊥
@@ -58,10 +61,12 @@ put-answers (Gathering k q u h) i b again n s =
 
 -- refused with anything but 20, 21, 22: receiver and memory unchanged
 pub refused-unchanged : (most : ℕ) (r : Receiver) (m p : List ℕ) (n : ℕ) → stepOf most r m p .said ≡ refused n
-    → (n ≡ 20 → ⊥) → (n ≡ 21 → ⊥) → (n ≡ 22 → ⊥) → Unchanged r m (stepOf most r m p .receiver) (stepOf most r m p .memory)
+    → (n ≡ 20 → ⊥) → (n ≡ 21 → ⊥) → (n ≡ 22 → ⊥)
+    → Unchanged r m (stepOf most r m p .receiver) (stepOf most r m p .memory)
 unfolding stepOf
 refused-unchanged most r m p n e n20 n21 n22 =
-    every-decision most r (length m) p (λ d. carried r m p d .said ≡ refused n → Unchanged r m (carried r m p d .receiver) (carried r m p d .memory))
+    every-decision most r (length m) p
+    (λ d. carried r m p d .said ≡ refused n → Unchanged r m (carried r m p d .receiver) (carried r m p d .memory))
     (λ k low high s. record { setup = refl; slots = refl; memory = refl })
     (λ x i k h low high c s.
     let same : k ≡ n = cc in
@@ -77,11 +82,20 @@ pub refused-freed : (most : ℕ) (r : Receiver) (m p : List ℕ) (n : ℕ) → s
     → SlotFreed (keyOf p) r m (stepOf most r m p .receiver) (stepOf most r m p .memory)
 unfolding stepOf
 refused-freed most r m p n e twenty =
-    every-decision most r (length m) p (λ d. carried r m p d .said ≡ refused n → SlotFreed (keyOf p) r m (carried r m p d .receiver) (carried r m p d .memory))
+    every-decision most r (length m) p
+    (λ d. carried r m p d .said ≡ refused n
+    → SlotFreed (keyOf p) r m (carried r m p d .receiver) (carried r m p d .memory))
     (λ k low high s.
     let same : k ≡ n = cc in
     absurd (none k same high))
-    (λ x i k h low high c s. record { slot = i; one-of-four = h; has-the-key = c; setup = refl; slots = refl; memory = refl })
+    (λ x i k h low high c s. record {
+      slot = i;
+      one-of-four = h;
+      has-the-key = c;
+      setup = refl;
+      slots = refl;
+      memory = refl;
+    })
     (λ x y i at again then f s. absurd (put-answers then i (at + length (bodyOf p)) again n s))
     e
   where
@@ -89,13 +103,30 @@ refused-freed most r m p n e twenty =
     none k same high = omega arith
 
 -- a packet changes at most one slot and that slot's 1,024 bytes
-pub one-slot : (most : ℕ) (r : Receiver) (m p : List ℕ) → OneSlot r m (stepOf most r m p .receiver) (stepOf most r m p .memory)
+pub one-slot : (most : ℕ) (r : Receiver) (m p : List ℕ)
+    → OneSlot r m (stepOf most r m p .receiver) (stepOf most r m p .memory)
 unfolding stepOf
 one-slot most r m p =
     every-decision most r (length m) p (λ d. OneSlot r m (carried r m p d .receiver) (carried r m p d .memory))
-    (λ n low high. record { slot = 0; one-of-four = lit< tt; setup = refl; others = λ j d. refl; size = refl; bytes-before = λ k h. refl; bytes-behind = λ k h. refl })
+    (λ n low high. record {
+      slot = 0;
+      one-of-four = lit< tt;
+      setup = refl;
+      others = λ j d. refl;
+      size = refl;
+      bytes-before = λ k h. refl;
+      bytes-behind = λ k h. refl;
+    })
     (λ x i n h low high c.
-    record { slot = i; one-of-four = h; setup = refl; others = λ j d. slot-other (r .slots) i j Free d; size = refl; bytes-before = λ k b. refl; bytes-behind = λ k b. refl })
+    record {
+      slot = i;
+      one-of-four = h;
+      setup = refl;
+      others = λ j d. slot-other (r .slots) i j Free d;
+      size = refl;
+      bytes-before = λ k b. refl;
+      bytes-behind = λ k b. refl;
+    })
     (λ x y i at again then f.
     record {
       slot = i;

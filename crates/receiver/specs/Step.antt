@@ -53,7 +53,11 @@ abbrev pub carried : Receiver → List ℕ → List ℕ → Decision → Left
 carried r m p (refuse n) = record { said = refused n; receiver = r; memory = m }
 carried r m p (release slot n) = record { said = refused n; receiver = withState r slot Free; memory = m }
 carried r m p (put slot at again then) =
-    record { said = answerOf then slot (at + length (bodyOf p)) again; receiver = withState r slot then; memory = laid m (1024 * slot + at) (bodyOf p) }
+    record {
+      said = answerOf then slot (at + length (bodyOf p)) again;
+      receiver = withState r slot then;
+      memory = laid m (1024 * slot + at) (bodyOf p);
+    }
 
 -- one packet given to the message rules
 unfoldable pub stepOf : ℕ → Receiver → List ℕ → List ℕ → Left

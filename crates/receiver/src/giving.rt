@@ -70,7 +70,8 @@ fn answer_of(then: SlotState, slot: u8, bytes: usize, again: bool) -> Answer
 }
 
 fn carry_out(receiver: Receiver, memory: &mut [u8], packet: &[u8], plan: Plan) -> Given
-    ensures { λ r. ⌜ left r (now (memory .exit)) ≡ carried receiver (now (memory .entry)) (now (packet .entry)) (planned plan) ⌝ }
+    ensures { λ r. ⌜ left r (now (memory .exit)) ≡ carried receiver (now (memory .entry)) (now (packet .entry))
+        (planned plan) ⌝ }
 {
     match plan {
         Plan::Refuse { refusal } => Given {

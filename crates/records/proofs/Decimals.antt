@@ -29,7 +29,8 @@ digits-enough (suc k) n h =
     (λ (few : n < 10). digits-one (suc k) n few ∙ sym (digits-one (suc (suc k)) n few))
     (λ (few : n < 10 → ⊥).
     digits-more (suc k) n (omega arith)
-    ∙ ap (λ (l : List ℕ). l ++ ((48 + n % 10) ∷ [])) (digits-enough k (n / 10) (div-lt-iff-lt-mul (lit< tt) .1 (rw pow-suc at h)))
+    ∙ ap (λ (l : List ℕ). l ++ ((48 + n % 10) ∷ []))
+    (digits-enough k (n / 10) (div-lt-iff-lt-mul (lit< tt) .1 (rw pow-suc at h)))
     ∙ sym (digits-more (suc (suc k)) n (omega arith)))
 
 -- a number of at most 64 bits, digit by digit
@@ -85,7 +86,11 @@ digits-made (suc k) n h =
     by-cases (decLt n 10)
     (λ (few : n < 10). rw (lt-ltb n 10 few) (omega arith))
     (λ (few : n < 10 → ⊥).
-    rw (le-ltb n 10 (omega arith), made-append, digits-made k (n / 10) (div-lt-iff-lt-mul (lit< tt) .1 (rw pow-suc at h))) (omega arith))
+    rw (
+      le-ltb n 10 (omega arith),
+      made-append,
+      digits-made k (n / 10) (div-lt-iff-lt-mul (lit< tt) .1 (rw pow-suc at h)),
+    ) (omega arith))
 
 pub decimal-made : (n : ℕ) → n < 10 ^ 20 → madeFrom 0 (decimal n) ≡ n
 unfolding decimal

@@ -14,7 +14,8 @@ use Rattle.records.proofs.line.put_last_line.Reads as last
 pub record-at-determined : (κs : Lfts 1) (a : _) (r q : Record) (e f : _) → at.Post κs a r e → at.Post κs a q f → r ≡ q
 record-at-determined κs a r q e f p o = determined p o
 
-pub count-digits-determined : (κs : Lfts 0) (a : _) (r q : ℕ) (e f : _) → digits.Post κs a r e → digits.Post κs a q f → r ≡ q
+pub count-digits-determined : (κs : Lfts 0) (a : _) (r q : ℕ) (e f : _) → digits.Post κs a r e → digits.Post κs a q f
+    → r ≡ q
 count-digits-determined κs a r q e f p o = determined (p .0) (o .0)
 
 pub lay-decimal-determined : (κs : Lfts 1) (a : _) (r q : ℕ) (e f : _) → decimal.Post κs a r e → decimal.Post κs a q f

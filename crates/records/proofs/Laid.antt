@@ -16,6 +16,7 @@ laid-set l at (x ∷ new) i b h =
     laid-set (set l at x) (suc at) new i b (omega arith)
     ∙ ap (λ (k : List ℕ). laid k (suc at) new) (set-comm l at i x b (λ (e : at ≡ i). omega arith))
 
-pub laid-before : (l : List ℕ) (at : ℕ) (new : List ℕ) (b : ℕ) → laid (laid l (suc at) new) at (b ∷ []) ≡ laid l at (b ∷ new)
+pub laid-before : (l : List ℕ) (at : ℕ) (new : List ℕ) (b : ℕ)
+    → laid (laid l (suc at) new) at (b ∷ []) ≡ laid l at (b ∷ new)
 unfolding laid
 laid-before l at new b = laid-set l (suc at) new at b (omega arith)

@@ -15,7 +15,8 @@ use Rattle.octets.proofs.Laid.{laid-append, laid-fits}
 use Rattle.records.specs.Decimal.{decimal}
 use Rattle.records.specs.declared.line.Line.{Line}
 use Rattle.records.specs.declared.line.Line.the-variants.{Done, Held, Refused}
-use Rattle.records.specs.Line.{doneSlot, lengthWord, heldSlot, bytesWord, refusedWord, arrivalsWord, packetsWord, named, ending, pair, lineBytes, lastLine, put, placeAfter, Placed}
+use Rattle.records.specs.Line.{doneSlot, lengthWord, heldSlot, bytesWord, refusedWord, arrivalsWord, packetsWord}
+use Rattle.records.specs.Line.{named, ending, pair, lineBytes, lastLine, put, placeAfter, Placed}
 use Rattle.records.proofs.Decimals.{decimal-most}
 
 -- the sizes of the parts
@@ -24,34 +25,51 @@ unfolding named
 named-size word n = length-append word (decimal n)
 
 pub pair-size : (first : List ℕ) (a : ℕ) (second : List ℕ) (b : ℕ) (again : Bool)
-    → length (pair first a second b again) ≡ length first + length second + (length (decimal a) + (length (decimal b) + length (ending again)))
+    → length (pair first a second b again)
+    ≡ length first + length second + (length (decimal a) + (length (decimal b) + length (ending again)))
 unfolding pair
 pair-size first a second b again =
-    rw (length-append (named first a) (named second b ++ ending again), length-append (named second b) (ending again), named-size first a, named-size second b) (omega arith)
+    rw (
+      length-append (named first a) (named second b ++ ending again),
+      length-append (named second b) (ending again),
+      named-size first a,
+      named-size second b,
+    ) (omega arith)
 
 line-size : (n : ℕ) (first : List ℕ) (a : ℕ) (second : List ℕ) (b : ℕ) (again : Bool)
-    → length (decimal n ++ pair first a second b again) ≡ length (decimal n) + (length first + length second + (length (decimal a) + (length (decimal b) + length (ending again))))
+    → length (decimal n ++ pair first a second b again)
+    ≡ length (decimal n) + (length first + length second +
+    (length (decimal a) + (length (decimal b) + length (ending again))))
 line-size n first a second b again =
-    length-append (decimal n) (pair first a second b again) ∙ ap (λ (k : ℕ). length (decimal n) + k) (pair-size first a second b again)
+    length-append (decimal n) (pair first a second b again)
+    ∙ ap (λ (k : ℕ). length (decimal n) + k) (pair-size first a second b again)
 
 pub done-size : (n slot size : ℕ) (again : Bool)
-    → length (lineBytes n (Done slot size again)) ≡ length (decimal n) + (19 + (length (decimal slot) + (length (decimal size) + length (ending again))))
+    → length (lineBytes n (Done slot size again))
+    ≡ length (decimal n) + (19 + (length (decimal slot) + (length (decimal size) + length (ending again))))
 unfolding lineBytes
 done-size n slot size again = line-size n doneSlot slot lengthWord size again
 
 pub held-size : (n slot bytes : ℕ) (again : Bool)
-    → length (lineBytes n (Held slot bytes again)) ≡ length (decimal n) + (18 + (length (decimal slot) + (length (decimal bytes) + length (ending again))))
+    → length (lineBytes n (Held slot bytes again))
+    ≡ length (decimal n) + (18 + (length (decimal slot) + (length (decimal bytes) + length (ending again))))
 unfolding lineBytes
 held-size n slot bytes again = line-size n heldSlot slot bytesWord bytes again
 
-pub last-size : (arrivals packets : ℕ) → length (lastLine arrivals packets) ≡ 18 + (length (decimal arrivals) + (length (decimal packets) + 1))
+pub last-size : (arrivals packets : ℕ)
+    → length (lastLine arrivals packets) ≡ 18 + (length (decimal arrivals) + (length (decimal packets) + 1))
 unfolding lastLine
 last-size arrivals packets = pair-size arrivalsWord arrivals packetsWord packets false
 
-pub refused-size : (n number : ℕ) → length (lineBytes n (Refused number)) ≡ length (decimal n) + (10 + length (decimal number))
+pub refused-size : (n number : ℕ)
+    → length (lineBytes n (Refused number)) ≡ length (decimal n) + (10 + length (decimal number))
 unfolding lineBytes
 refused-size n number =
-    rw (length-append (decimal n) (named refusedWord number ++ ending false), length-append (named refusedWord number) (ending false), named-size refusedWord number) (omega arith)
+    rw (
+      length-append (decimal n) (named refusedWord number ++ ending false),
+      length-append (named refusedWord number) (ending false),
+      named-size refusedWord number,
+    ) (omega arith)
 
 -- no line is longer than `LINE_ROOM`
 ending-most : (again : Bool) → length (ending again) ≤ 7
@@ -59,15 +77,25 @@ ending-most true = omega arith
 ending-most false = omega arith
 
 pub line-most : (n : ℕ) (line : Line) → length (lineBytes n line) ≤ 86
-line-most n (Done slot size again) = omega (arith, done-size n slot size again, decimal-most n, decimal-most slot, decimal-most size, ending-most again)
-line-most n (Held slot bytes again) = omega (arith, held-size n slot bytes again, decimal-most n, decimal-most slot, decimal-most bytes, ending-most again)
+line-most n (Done slot size again) =
+    omega (arith, done-size n slot size again, decimal-most n, decimal-most slot, decimal-most size, ending-most again)
+line-most n (Held slot bytes again) =
+    omega (
+      arith,
+      held-size n slot bytes again,
+      decimal-most n,
+      decimal-most slot,
+      decimal-most bytes,
+      ending-most again,
+    )
 line-most n (Refused number) = omega (arith, refused-size n number, decimal-most n, decimal-most number)
 
 pub last-line-most : (arrivals packets : ℕ) → length (lastLine arrivals packets) ≤ 86
 last-line-most arrivals packets = omega (arith, last-size arrivals packets, decimal-most arrivals, decimal-most packets)
 
 -- one part laid after the other
-pub placed-append : {l m o : List ℕ} {at p q : ℕ} (a b : List ℕ) → Placed l at a p m → Placed m p b q o → Placed l at (a ++ b) q o
+pub placed-append : {l m o : List ℕ} {at p q : ℕ} (a b : List ℕ) → Placed l at a p m → Placed m p b q o
+    → Placed l at (a ++ b) q o
 placed-append {l} {m} {o} {at} {p} {q} a b x y =
     record {
       place = omega (arith, x .place, y .place, length-append a b);
@@ -85,7 +113,8 @@ module _ (out : List ℕ) (at : ℕ) (line : List ℕ) where
     unfolding placeAfter
     after-is = rw (le-leb (at + length line) (length out) h)
 
-    pub put-placed : {r : ℕ} {left : List ℕ} → Placed out at line r left → (r ≡ placeAfter out at line) × (left ≡ put out at line)
+    pub put-placed : {r : ℕ} {left : List ℕ} → Placed out at line r left
+        → (r ≡ placeAfter out at line) × (left ≡ put out at line)
     put-placed p = (p .place ∙ sym after-is, p .stored ∙ sym put-is)
 
     -- up to the new place stand the bytes that stood before the old one, and then the line

@@ -36,7 +36,8 @@ module _ (size : ℕ) (s : List ℕ) (h : size ≤ length s) where
   walk-front : walk (suc (length s)) (size ∷ s) ≡ found (take size s) (walk (length (drop size s)) (drop size s))
   walk-front =
       walk-whole (length s)
-      ∙ ap (found (take size s)) (walk-enough (length s) (length (drop size s)) (drop size s) (rw length-drop (omega arith)) (omega arith))
+      ∙ ap (found (take size s)) (walk-enough (length s) (length (drop size s)) (drop size s)
+      (rw length-drop (omega arith)) (omega arith))
 
   pub records-whole : recordsOf (size ∷ s) ≡ take size s ∷ recordsOf (drop size s)
   unfolding recordsOf
@@ -115,9 +116,12 @@ records-split s = walk-split (length s) s
 
 -- behind the whole records stands the rest
 pub rest-behind : (s : List ℕ) → drop (length (joined (recordsOf s))) s ≡ restOf s
-rest-behind s = ap (drop (length (joined (recordsOf s)))) (sym (records-split s)) ∙ drop-append-seam (joined (recordsOf s)) (restOf s)
+rest-behind s =
+    ap (drop (length (joined (recordsOf s)))) (sym (records-split s))
+    ∙ drop-append-seam (joined (recordsOf s)) (restOf s)
 
--- the rest of a list of bytes is shorter than the longest record: the walk left it because its length byte promises more
+-- the rest of a list of bytes is shorter than the longest record: the walk left it because its length byte promises
+-- more
 rest-few : (n : ℕ) (s : List ℕ) → Below 256 s → length s ≤ n → length (walk n s .rest) < 256
 unfolding walk
 rest-few zero s bytes h = omega arith
@@ -149,7 +153,8 @@ pub arrivals-append : (s t : List ℕ) → arrivalsIn (s ++ t) ≡ arrivalsIn s 
 unfolding arrivalsIn
 arrivals-append s t = ap length (records-append s t) ∙ length-append (recordsOf s) (recordsOf (restOf s ++ t))
 
--- where the first bytes of a list are the records of some frames, they are its first frames, whatever comes behind the list
+-- where the first bytes of a list are the records of some frames, they are its first frames, whatever comes behind the
+-- list
 pub records-passed : (s t : List ℕ) (at : ℕ) (frames : List (List ℕ)) → take at s ≡ joined frames
     → recordsOf (s ++ t) ≡ frames ++ recordsOf (drop at s ++ t)
 records-passed s t at frames p =
@@ -178,7 +183,11 @@ module _ (s : List ℕ) (at : ℕ) where
 
     pub walk-at-whole : recordsOf (drop at s) ≡ take size (drop start s) ∷ recordsOf (drop (start + size) s)
     walk-at-whole =
-        rw (here, records-whole size (drop start s) (rw length-drop (omega (arith, stands .ends))), drop-drop size start s)
+        rw (
+          here,
+          records-whole size (drop start s) (rw length-drop (omega (arith, stands .ends))),
+          drop-drop size start s,
+        )
 
     -- the bytes passed, with one record more
     pub passed-whole : (frames : List (List ℕ)) → take at s ≡ joined frames

@@ -28,9 +28,11 @@ pub enum Line {
 // No line is longer, whatever its numbers.
 pub const LINE_ROOM: usize = 86;
 
-// Line `number` put to place `at` of `out`, and the place after it. Where it does not fit nothing is written, and the place stays.
+// Line `number` put to place `at` of `out`, and the place after it. Where it does not fit nothing is written, and the
+// place stays.
 pub fn put_line(out: &mut [u8], at: usize, number: u64, line: Line) -> usize
-    ensures { λ r. ⌜ (r ≡ placeAfter (now (out .entry)) at (lineBytes number line)) × (now (out .exit) ≡ put (now (out .entry)) at (lineBytes number line)) ⌝ }
+    ensures { λ r. ⌜ (r ≡ placeAfter (now (out .entry)) at (lineBytes number line))
+        × (now (out .exit) ≡ put (now (out .entry)) at (lineBytes number line)) ⌝ }
 {
     if out.len() < at {
         return at;
@@ -44,7 +46,8 @@ pub fn put_line(out: &mut [u8], at: usize, number: u64, line: Line) -> usize
 
 // The last line, put in the same way.
 pub fn put_last_line(out: &mut [u8], at: usize, arrivals: u64, packets: u64) -> usize
-    ensures { λ r. ⌜ (r ≡ placeAfter (now (out .entry)) at (lastLine arrivals packets)) × (now (out .exit) ≡ put (now (out .entry)) at (lastLine arrivals packets)) ⌝ }
+    ensures { λ r. ⌜ (r ≡ placeAfter (now (out .entry)) at (lastLine arrivals packets))
+        × (now (out .exit) ≡ put (now (out .entry)) at (lastLine arrivals packets)) ⌝ }
 {
     if out.len() < at {
         return at;
@@ -154,7 +157,8 @@ fn lay_pair(
     again: bool,
 ) -> usize
     requires { ⌜ (at ≤ length (now out) + 20) × (length (now first) ≤ 16) × (length (now second) ≤ 16) ⌝ }
-    ensures { λ r. ⌜ Placed (now (out .entry)) at (pair (now (first .entry)) a (now (second .entry)) b again) r (now (out .exit)) ⌝ }
+    ensures { λ r. ⌜ Placed (now (out .entry)) at (pair (now (first .entry)) a (now (second .entry)) b again) r
+        (now (out .exit)) ⌝ }
 {
     let middle = lay_named(out, at, first, a);
     let end = lay_named(out, middle, second, b);

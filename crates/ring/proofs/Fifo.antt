@@ -1,5 +1,5 @@
--- First in, first out: any list of packets that fits, written one after the other, is read back in order, and so are those
--- that stand in a ring already, in whichever states a ring may be read.
+-- First in, first out: any list of packets that fits, written one after the other, is read back in order, and so are
+-- those that stand in a ring already, in whichever states a ring may be read.
 -- Assumes nothing.
 use mathlib.Core.Path.{_≡_, refl, ap, sym, subst, _∙_}
 use mathlib.Core.Bool.{true, false}

@@ -1,4 +1,5 @@
--- Headers: one stands in one run wherever a pointer may point, says what it was written for, and written bytes read back.
+-- Headers: one stands in one run wherever a pointer may point, says what it was written for, and written bytes read
+-- back.
 -- Assumes nothing.
 use mathlib.Core.Path.{_≡_, refl, ap, sym, _∙_}
 use mathlib.Core.List.{List, _++_, append-assoc}
@@ -10,7 +11,8 @@ use lib.ListN.{length, getD, take, drop, replicate, length-append, length-drop, 
 use lib.Seq.{getD-drop, take-at, drop-at}
 use Rattle.octets.specs.Words.{Order, lowFirst, highFirst, wordAt, wordBytes}
 use Rattle.octets.proofs.Words.{word-back}
-use Rattle.ring.specs.Packet.{headerAt, paddingField, typeField, mctpType, wholeOf, sizeOf, packetOf, paddingFor, wholeFor, headerFor, ringBytes}
+use Rattle.ring.specs.Packet.{headerAt, paddingField, typeField, mctpType, wholeOf, sizeOf, packetOf, paddingFor}
+use Rattle.ring.specs.Packet.{wholeFor, headerFor, ringBytes}
 use Rattle.ring.specs.Turn.{turn}
 
 pub word-length : (w : ℕ) → length (wordBytes highFirst w) ≡ 4
@@ -18,7 +20,8 @@ unfolding wordBytes
 word-length w = refl
 
 -- the same four bytes make the same word
-pub word-four : (o : Order) (s t : List ℕ) (i j : ℕ) → ((k : ℕ) → k < 4 → getD s (i + k) 0 ≡ getD t (j + k) 0) → wordAt o s i ≡ wordAt o t j
+pub word-four : (o : Order) (s t : List ℕ) (i j : ℕ) → ((k : ℕ) → k < 4 → getD s (i + k) 0 ≡ getD t (j + k) 0)
+    → wordAt o s i ≡ wordAt o t j
 unfolding wordAt
 word-four lowFirst s t i j e = cc (simp add-zero at (e 0 (lit< tt)), e 1 (lit< tt), e 2 (lit< tt), e 3 (lit< tt))
 word-four highFirst s t i j e = cc (simp add-zero at (e 0 (lit< tt)), e 1 (lit< tt), e 2 (lit< tt), e 3 (lit< tt))
@@ -35,7 +38,9 @@ header-straight ring p h =
     ∙ getD-drop p ring k 0)))
 
 -- the fields of a header that was put together
-fields : (k pad : ℕ) → pad < 4 → ((k * 1024 + pad * 256 + 4) / 1024 ≡ k) × ((k * 1024 + pad * 256 + 4) / 256 % 4 ≡ pad) × ((k * 1024 + pad * 256 + 4) % 16 ≡ 4)
+fields : (k pad : ℕ) → pad < 4
+    → ((k * 1024 + pad * 256 + 4) / 1024 ≡ k) × ((k * 1024 + pad * 256 + 4) / 256 % 4 ≡ pad)
+    × ((k * 1024 + pad * 256 + 4) % 16 ≡ 4)
 fields k pad h = (omega arith, omega arith, omega arith)
 
 -- a written header says what it was written for
@@ -62,24 +67,32 @@ module _ (n : ℕ) where
 
 -- written bytes read back, whatever stands behind them
 module _ (packet rest : List ℕ) where
-  bytes-split : ringBytes packet ++ rest ≡ wordBytes highFirst (headerFor (length packet)) ++ (packet ++ (replicate (paddingFor (length packet)) 0 ++ rest))
+  bytes-split : ringBytes packet ++ rest
+      ≡ wordBytes highFirst (headerFor (length packet))
+      ++ (packet ++ (replicate (paddingFor (length packet)) 0 ++ rest))
   unfolding ringBytes
   bytes-split =
-      append-assoc (wordBytes highFirst (headerFor (length packet))) (packet ++ replicate (paddingFor (length packet)) 0) rest
-      ∙ ap (λ (s : List ℕ). wordBytes highFirst (headerFor (length packet)) ++ s) (append-assoc packet (replicate (paddingFor (length packet)) 0) rest)
+      append-assoc (wordBytes highFirst (headerFor (length packet)))
+      (packet ++ replicate (paddingFor (length packet)) 0) rest
+      ∙ ap (λ (s : List ℕ). wordBytes highFirst (headerFor (length packet)) ++ s)
+      (append-assoc packet (replicate (paddingFor (length packet)) 0) rest)
 
   pub header-back : length packet ≤ 250 → headerAt (ringBytes packet ++ rest) ≡ headerFor (length packet)
   header-back h =
       ap headerAt bytes-split
-      ∙ word-back highFirst (headerFor (length packet)) (packet ++ (replicate (paddingFor (length packet)) 0 ++ rest)) (header-fits (length packet) h)
+      ∙ word-back highFirst (headerFor (length packet)) (packet ++ (replicate (paddingFor (length packet)) 0 ++ rest))
+      (header-fits (length packet) h)
 
   pub packet-back : length packet ≤ 250 → packetOf (ringBytes packet ++ rest) ≡ packet
   unfolding packetOf
   packet-back h =
-      let four : length (wordBytes highFirst (headerFor (length packet))) ≡ 4 = word-length (headerFor (length packet)) in
-      ap (λ (n : ℕ). take n (drop 4 (ringBytes packet ++ rest))) (ap sizeOf (header-back h) ∙ header-size (length packet))
+      let four : length (wordBytes highFirst (headerFor (length packet))) ≡ 4 =
+      word-length (headerFor (length packet)) in
+      ap (λ (n : ℕ). take n (drop 4 (ringBytes packet ++ rest)))
+      (ap sizeOf (header-back h) ∙ header-size (length packet))
       ∙ ap (λ (s : List ℕ). take (length packet) (drop 4 s)) bytes-split
-      ∙ ap (take (length packet)) (drop-at (wordBytes highFirst (headerFor (length packet))) (packet ++ (replicate (paddingFor (length packet)) 0 ++ rest)) 4 four)
+      ∙ ap (take (length packet)) (drop-at (wordBytes highFirst (headerFor (length packet)))
+      (packet ++ (replicate (paddingFor (length packet)) 0 ++ rest)) 4 four)
       ∙ take-at packet (replicate (paddingFor (length packet)) 0 ++ rest) (length packet) refl
 
 pub bytes-length : (packet : List ℕ) → length (ringBytes packet) ≡ wholeFor (length packet)
@@ -88,4 +101,9 @@ bytes-length packet =
     let w = wordBytes highFirst (headerFor (length packet)) in
     let pad = replicate {A = ℕ} (paddingFor (length packet)) 0 in
     length-append w (packet ++ pad)
-    ∙ omega (arith, word-length (headerFor (length packet)), length-append packet pad, length-replicate {A = ℕ} (paddingFor (length packet)) 0)
+    ∙ omega (
+      arith,
+      word-length (headerFor (length packet)),
+      length-append packet pad,
+      length-replicate {A = ℕ} (paddingFor (length packet)) 0,
+    )

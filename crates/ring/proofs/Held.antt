@@ -1,4 +1,5 @@
--- What a ring holds: a packet put in stands last, the packet taken out stood first, and no other byte that a reader could take has changed.
+-- What a ring holds: a packet put in stands last, the packet taken out stood first, and no other byte that a reader
+-- could take has changed.
 -- Assumes nothing.
 use mathlib.Core.Path.{_≡_, refl, ap, sym, _∙_}
 use mathlib.Core.Bool.{true}
@@ -11,12 +12,15 @@ use Rattle.octets.proofs.Choice.{both, within-bounds}
 use Rattle.octets.proofs.Laid.{laid-fits}
 use Rattle.mctp.specs.Packet.{packetSize}
 use Rattle.ring.specs.Numbers.{filledOf, roomOf, nextOf}
-use Rattle.ring.specs.Packet.{headerAt, paddingField, typeField, wholeOf, sizeOf, packetOf, wholeFor, headerFor, ringBytes}
+use Rattle.ring.specs.Packet.{headerAt, paddingField, typeField, wholeOf, sizeOf, packetOf, wholeFor, headerFor}
+use Rattle.ring.specs.Packet.{ringBytes}
 use Rattle.ring.specs.Runs.{allSized, allBytes}
 use Rattle.ring.specs.Turn.{turn, stored}
-use Rattle.ring.proofs.Headers.{header-padding, header-type, header-whole, header-size, header-back, packet-back, bytes-length}
+use Rattle.ring.proofs.Headers.{header-padding, header-type, header-whole, header-size, header-back, packet-back}
+use Rattle.ring.proofs.Headers.{bytes-length}
 use Rattle.mmbi.proofs.Pointers.{Pointer}
-use Rattle.ring.proofs.Numbers.{filled-below, filled-near, filled-room, filled-written, filled-taken, next-right, next-filled}
+use Rattle.ring.proofs.Numbers.{filled-below, filled-near, filled-room, filled-written, filled-taken, next-right}
+use Rattle.ring.proofs.Numbers.{next-filled}
 use Rattle.ring.proofs.Readings as readings
 use Rattle.ring.proofs.Readings.{SetUp}
 use Rattle.ring.proofs.Turns.{turn-length, turn-turn, stored-length, stored-behind}
@@ -30,13 +34,16 @@ pub record Holds (most configured : ℕ) (ring : List ℕ) (read write : ℕ) (p
   pub bytes : take (filledOf configured read write) (turn read ring) ≡ allBytes packets
 
 -- "Equal pointers mean empty."
-pub holds-none : (most configured : ℕ) (ring : List ℕ) (pointer : ℕ) → SetUp most configured (length ring) → Pointer configured pointer → Holds most configured ring pointer pointer []
+pub holds-none : (most configured : ℕ) (ring : List ℕ) (pointer : ℕ) → SetUp most configured (length ring)
+    → Pointer configured pointer → Holds most configured ring pointer pointer []
 unfolding allSized allBytes
 holds-none most configured ring pointer set-up p =
-    let none : filledOf configured pointer pointer ≡ 0 = filled-near configured pointer pointer (omega arith) (p .below) ∙ omega arith in
+    let none : filledOf configured pointer pointer ≡ 0 =
+    filled-near configured pointer pointer (omega arith) (p .below) ∙ omega arith in
     record { set-up = set-up; from = p; to = p; sized = refl; bytes = ap (λ (n : ℕ). take n (turn pointer ring)) none }
 
-sized-more : (most : ℕ) (packets : List (List ℕ)) (p : List ℕ) → allSized most packets ≡ true → packetSize most (length p) ≡ true → allSized most (packets ++ (p ∷ [])) ≡ true
+sized-more : (most : ℕ) (packets : List (List ℕ)) (p : List ℕ) → allSized most packets ≡ true
+    → packetSize most (length p) ≡ true → allSized most (packets ++ (p ∷ [])) ≡ true
 unfolding allSized
 sized-more most [] p h k = rw k
 sized-more most (q ∷ packets) p h k =
@@ -46,40 +53,54 @@ sized-more most (q ∷ packets) p h k =
 bytes-more : (packets : List (List ℕ)) (p : List ℕ) → allBytes (packets ++ (p ∷ [])) ≡ allBytes packets ++ ringBytes p
 unfolding allBytes
 bytes-more [] p = append-nil (ringBytes p)
-bytes-more (q ∷ packets) p = ap (λ (s : List ℕ). ringBytes q ++ s) (bytes-more packets p) ∙ sym (append-assoc (ringBytes q) (allBytes packets) (ringBytes p))
+bytes-more (q ∷ packets) p =
+    ap (λ (s : List ℕ). ringBytes q ++ s) (bytes-more packets p)
+    ∙ sym (append-assoc (ringBytes q) (allBytes packets) (ringBytes p))
 
 -- writing seen from the read pointer: bytes laid behind what is filled
-module _ (configured : ℕ) (ring : List ℕ) (read write : ℕ) (same : configured ≡ length ring) (from : Pointer configured read) (to : Pointer configured write) (bytes : List ℕ) (fits : filledOf configured read write + length bytes ≤ configured) where
-  written-behind : turn read (stored ring write bytes) ≡ take (filledOf configured read write) (turn read ring) ++ (bytes ++ drop (filledOf configured read write + length bytes) (turn read ring))
+module _ (configured : ℕ) (ring : List ℕ) (read write : ℕ) (same : configured ≡ length ring)
+    (from : Pointer configured read) (to : Pointer configured write) (bytes : List ℕ)
+    (fits : filledOf configured read write + length bytes ≤ configured) where
+  written-behind : turn read (stored ring write bytes)
+      ≡ take (filledOf configured read write) (turn read ring)
+      ++ (bytes ++ drop (filledOf configured read write + length bytes) (turn read ring))
   written-behind =
       let f = filledOf configured read write in
-      let at : write ≡ nextOf (length ring) read f = sym (next-filled configured read write (from .below) (to .below)) ∙ ap (λ (n : ℕ). nextOf n read f) same in
+      let at : write ≡ nextOf (length ring) read f = sym (next-filled configured read write (from .below) (to .below))
+      ∙ ap (λ (n : ℕ). nextOf n read f) same in
       ap (λ (p : ℕ). turn read (stored ring p bytes)) at
       ∙ stored-behind ring read f bytes (omega (arith, from .below)) (omega arith)
       ∙ laid-fits (turn read ring) f bytes (omega (arith, turn-length read ring))
 
   -- "Only the packet's own ring bytes change": no byte that a reader could still take has changed
-  pub written-keeps : take (filledOf configured read write) (turn read (stored ring write bytes)) ≡ take (filledOf configured read write) (turn read ring)
+  pub written-keeps : take (filledOf configured read write) (turn read (stored ring write bytes))
+      ≡ take (filledOf configured read write) (turn read ring)
   written-keeps =
       let f = filledOf configured read write in
       ap (take f) written-behind
-      ∙ take-at (take f (turn read ring)) (bytes ++ drop (f + length bytes) (turn read ring)) f (length-take-le f (turn read ring) (omega (arith, turn-length read ring)))
+      ∙ take-at (take f (turn read ring)) (bytes ++ drop (f + length bytes) (turn read ring)) f
+      (length-take-le f (turn read ring) (omega (arith, turn-length read ring)))
 
   -- with the new bytes behind them
-  written-adds : take (filledOf configured read write + length bytes) (turn read (stored ring write bytes)) ≡ take (filledOf configured read write) (turn read ring) ++ bytes
+  written-adds : take (filledOf configured read write + length bytes) (turn read (stored ring write bytes))
+      ≡ take (filledOf configured read write) (turn read ring) ++ bytes
   written-adds =
       let f = filledOf configured read write in
       let front = length-take-le f (turn read ring) (omega (arith, turn-length read ring)) in
-      ap (take (f + length bytes)) (written-behind ∙ sym (append-assoc (take f (turn read ring)) bytes (drop (f + length bytes) (turn read ring))))
-      ∙ take-at (take f (turn read ring) ++ bytes) (drop (f + length bytes) (turn read ring)) (f + length bytes) (length-append (take f (turn read ring)) bytes ∙ ap (λ (n : ℕ). n + length bytes) front)
+      ap (take (f + length bytes)) (written-behind
+      ∙ sym (append-assoc (take f (turn read ring)) bytes (drop (f + length bytes) (turn read ring))))
+      ∙ take-at (take f (turn read ring) ++ bytes) (drop (f + length bytes) (turn read ring)) (f + length bytes)
+      (length-append (take f (turn read ring)) bytes ∙ ap (λ (n : ℕ). n + length bytes) front)
 
 whole-fours : (n : ℕ) → wholeFor n % 4 ≡ 0
 whole-fours n = omega arith
 
 -- a packet put in stands last
 pub holds-written : (most configured : ℕ) (ring : List ℕ) (read write : ℕ) (packets : List (List ℕ)) (p : List ℕ)
-    → Holds most configured ring read write packets → packetSize most (length p) ≡ true → wholeFor (length p) ≤ roomOf configured read write
-    → Holds most configured (stored ring write (ringBytes p)) read (nextOf configured write (wholeFor (length p))) (packets ++ (p ∷ []))
+    → Holds most configured ring read write packets → packetSize most (length p) ≡ true
+    → wholeFor (length p) ≤ roomOf configured read write
+    → Holds most configured (stored ring write (ringBytes p)) read (nextOf configured write (wholeFor (length p)))
+    (packets ++ (p ∷ []))
 holds-written most configured ring read write packets p h sized room =
     let f = filledOf configured read write in
     let n = bytes-length p in
@@ -92,10 +113,14 @@ holds-written most configured ring read write packets p h sized room =
     record {
       set-up = record { low = h .set-up .low; high = h .set-up .high; size = l; same = same ∙ sym kept };
       from = h .from;
-      to = next-right configured write (wholeFor (length p)) (h .to .below) (omega arith) (l .fours) (h .to .fours) (whole-fours (length p));
+      to =
+          next-right configured write (wholeFor (length p)) (h .to .below) (omega arith) (l .fours) (h .to .fours)
+          (whole-fours (length p));
       sized = sized-more most packets p (h .sized) sized;
       bytes =
-          ap (λ (k : ℕ). take k (turn read (stored ring write (ringBytes p)))) (filled-written configured read write (wholeFor (length p)) (h .from .below) (h .to .below) (omega arith) ∙ ap (λ (k : ℕ). f + k) (sym n))
+          ap (λ (k : ℕ). take k (turn read (stored ring write (ringBytes p))))
+          (filled-written configured read write (wholeFor (length p)) (h .from .below) (h .to .below) (omega arith)
+          ∙ ap (λ (k : ℕ). f + k) (sym n))
           ∙ written-adds configured ring read write same (h .from) (h .to) (ringBytes p) fits
           ∙ ap (λ (s : List ℕ). s ++ ringBytes p) (h .bytes)
           ∙ sym (bytes-more packets p);
@@ -109,7 +134,8 @@ left-over s n m h =
     ∙ sym (ap (drop n) (take-add n m s) ∙ drop-at (take n s) (take m (drop n s)) n (length-take-le n s (omega arith)))
 
 -- the packet taken out stood first
-module _ (most configured : ℕ) (ring : List ℕ) (read write : ℕ) (packets : List (List ℕ)) (p : List ℕ) (h : Holds most configured ring read write (p ∷ packets)) where
+module _ (most configured : ℕ) (ring : List ℕ) (read write : ℕ) (packets : List (List ℕ)) (p : List ℕ)
+    (h : Holds most configured ring read write (p ∷ packets)) where
   split : take (filledOf configured read write) (turn read ring) ≡ ringBytes p ++ allBytes packets
   unfolding allBytes
   split = h .bytes
@@ -136,20 +162,32 @@ module _ (most configured : ℕ) (ring : List ℕ) (read write : ℕ) (packets :
   held : wholeFor (length p) ≤ filledOf configured read write
   held =
       let same = h .set-up .same in
-      omega (arith, bytes-length p, length-append (ringBytes p) (allBytes packets), ap length split, length-take-le (filledOf configured read write) (turn read ring) (omega (arith, below, turn-length read ring)))
+      omega (
+        arith,
+        bytes-length p,
+        length-append (ringBytes p) (allBytes packets),
+        ap length split,
+        length-take-le (filledOf configured read write) (turn read ring)
+            (omega (arith, below, turn-length read ring)),
+      )
 
   header : headerAt (turn read ring) ≡ headerFor (length p)
-  header = ap headerAt front ∙ header-back p (allBytes packets ++ drop (filledOf configured read write) (turn read ring)) small
+  header =
+      ap headerAt front ∙ header-back p
+      (allBytes packets ++ drop (filledOf configured read write) (turn read ring)) small
 
   -- it reads back
   pub held-packet : packetOf (turn read ring) ≡ p
-  held-packet = ap packetOf front ∙ packet-back p (allBytes packets ++ drop (filledOf configured read write) (turn read ring)) small
+  held-packet =
+      ap packetOf front ∙ packet-back p
+      (allBytes packets ++ drop (filledOf configured read write) (turn read ring)) small
 
   whole : wholeOf (headerAt (turn read ring)) ≡ wholeFor (length p)
   whole = ap wholeOf header ∙ header-whole (length p)
 
   pub held-good : (output : ℕ) → 4 + most ≤ output
-      → readings.Good most ring configured true read write output (length p) (nextOf configured read (wholeFor (length p)))
+      → readings.Good most ring configured true read write output (length p)
+      (nextOf configured read (wholeFor (length p)))
   held-good output room =
       record {
         set-up = h .set-up;
@@ -158,7 +196,12 @@ module _ (most configured : ℕ) (ring : List ℕ) (read write : ℕ) (packets :
         from = h .from;
         to = h .to;
         some = λ (e : read ≡ write).
-            omega (arith, held, ap (filledOf configured read) (sym e), filled-near configured read read (omega arith) (h .from .below));
+            omega (
+              arith,
+              held,
+              ap (filledOf configured read) (sym e),
+              filled-near configured read read (omega arith) (h .from .below),
+            );
         header = record {
           held = omega (arith, whole, held);
           counted = omega (arith, whole, ap paddingField header ∙ header-padding (length p));
@@ -185,11 +228,14 @@ module _ (most configured : ℕ) (ring : List ℕ) (read write : ℕ) (packets :
       let inside : n + (f - n) ≤ length s = omega arith in
       record {
         set-up = h .set-up;
-        from = next-right configured read n (h .from .below) (omega arith) (l .fours) (h .from .fours) (whole-fours (length p));
+        from =
+            next-right configured read n (h .from .below) (omega arith) (l .fours) (h .from .fours)
+            (whole-fours (length p));
         to = h .to;
         sized = sizes .1;
         bytes =
-            ap (λ (k : ℕ). take k (turn (nextOf configured read n) ring)) (filled-taken configured read write n (h .from .below) (h .to .below) held)
+            ap (λ (k : ℕ). take k (turn (nextOf configured read n) ring))
+            (filled-taken configured read write n (h .from .below) (h .to .below) held)
             ∙ ap (λ (k : ℕ). take (f - n) (turn (nextOf k read n) ring)) same
             ∙ ap (take (f - n)) (sym (turn-turn ring read n (omega (arith, h .from .below)) (omega arith)))
             ∙ left-over s n (f - n) inside

@@ -34,20 +34,25 @@ image-bytes = refl
 abbrev pub written : List ℕ
 written = 0 ∷ 0 ∷ 0 ∷ 0 ∷ replicate 116 238 ++ (0 ∷ 0 ∷ 11 ∷ 4 ∷ 1 ∷ 9 ∷ 10 ∷ 200 ∷ [])
 
-pub image-written : writing.writeOf 64 (replicate 128 238) 128 true 120 120 packet ≡ writing.left (writing.written 4) written
+pub image-written : writing.writeOf 64 (replicate 128 238) 128 true 120 120 packet
+    ≡ writing.left (writing.written 4) written
 unfolding writing.putOf filledOf roomOf nextOf turn stored fronted ringBytes headerFor wordBytes
 image-written = refl
 
-pub image-read : reading.readOf 64 written 128 true 120 4 (replicate 68 170) ≡ reading.left (reading.packet 5 4) (packet ++ replicate 63 170)
+pub image-read : reading.readOf 64 written 128 true 120 4 (replicate 68 170)
+    ≡ reading.left (reading.packet 5 4) (packet ++ replicate 63 170)
 unfolding reading.takenOf reading.judged filledOf nextOf turn fronted packetOf wordAt
 image-read = refl
 
 -- the same packet of another maker: reserved bits set (F4), padding AA BB CC
-pub foreign-read : reading.readOf 64 (0 ∷ 0 ∷ 11 ∷ 244 ∷ 1 ∷ 9 ∷ 10 ∷ 200 ∷ 0 ∷ 170 ∷ 187 ∷ 204 ∷ replicate 116 238) 128 true 0 12 (replicate 68 170) ≡ reading.left (reading.packet 5 12) (packet ++ replicate 63 170)
+pub foreign-read : reading.readOf 64
+    (0 ∷ 0 ∷ 11 ∷ 244 ∷ 1 ∷ 9 ∷ 10 ∷ 200 ∷ 0 ∷ 170 ∷ 187 ∷ 204 ∷ replicate 116 238) 128 true 0 12 (replicate 68 170)
+    ≡ reading.left (reading.packet 5 12) (packet ++ replicate 63 170)
 unfolding reading.takenOf reading.judged filledOf nextOf turn fronted packetOf wordAt
 foreign-read = refl
 
--- PKT_LEN 0 is the header alone: with no padding 3 or 14, and the pointer moves on by four; with padding that it can't hold, 13
+-- PKT_LEN 0 is the header alone: with no padding 3 or 14, and the pointer moves on by four; with padding that it can't
+-- hold, 13
 pub header-alone : reading.takenOf 64 (0 ∷ 0 ∷ 0 ∷ 4 ∷ replicate 124 238) 128 true 0 12 68 ≡ reading.skipped 3 4
 unfolding reading.takenOf reading.judged filledOf nextOf turn wordAt
 header-alone = refl

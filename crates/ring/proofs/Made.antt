@@ -12,7 +12,8 @@ use Rattle.octets.specs.Words.{highFirst, wordBytes}
 use Rattle.octets.proofs.Below.{below-append, below-take, below-drop}
 use Rattle.octets.proofs.Words.{bytes-back}
 use Rattle.ring.specs.Numbers.{filledOf, nextOf}
-use Rattle.ring.specs.Packet.{headerAt, lengthField, paddingField, typeField, wholeOf, sizeOf, packetOf, paddingFor, wholeFor, headerFor, ringWith, RingLayout}
+use Rattle.ring.specs.Packet.{headerAt, lengthField, paddingField, typeField, wholeOf, sizeOf, packetOf}
+use Rattle.ring.specs.Packet.{paddingFor, wholeFor, headerFor, ringWith, RingLayout}
 use Rattle.ring.specs.Reading.{packet, takenOf}
 use Rattle.ring.specs.Turn.{turn}
 use Rattle.ring.proofs.Numbers.{filled-below}

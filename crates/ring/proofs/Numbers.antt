@@ -54,7 +54,8 @@ module _ (length read write : ℕ) where
 
 -- filled, by the order of the pointers
 module _ (length read write : ℕ) (r : read < length) (w : write < length) where
-  pub filled-cases : ((filledOf length read write ≡ write - read) × (read ≤ write)) ⊎ ((filledOf length read write ≡ length + write - read) × (write < read))
+  pub filled-cases : ((filledOf length read write ≡ write - read) × (read ≤ write))
+      ⊎ ((filledOf length read write ≡ length + write - read) × (write < read))
   filled-cases =
       by-cases (decLt write read)
       (λ (h : write < read). inr (filled-over length read write h r, h))
@@ -69,7 +70,8 @@ module _ (length read write : ℕ) (r : read < length) (w : write < length) wher
 
 -- next, before the ring's end or over it
 module _ (length pointer n : ℕ) (p : pointer < length) (s : n ≤ length) where
-  pub next-cases : ((nextOf length pointer n ≡ pointer + n) × (pointer + n < length)) ⊎ ((nextOf length pointer n ≡ pointer + n - length) × (length ≤ pointer + n))
+  pub next-cases : ((nextOf length pointer n ≡ pointer + n) × (pointer + n < length))
+      ⊎ ((nextOf length pointer n ≡ pointer + n - length) × (length ≤ pointer + n))
   next-cases =
       by-cases (decLt (pointer + n) length)
       (λ (h : pointer + n < length). inl (next-near length pointer n h, h))
@@ -77,7 +79,8 @@ module _ (length pointer n : ℕ) (p : pointer < length) (s : n ≤ length) wher
 
   pub next-right : length % 4 ≡ 0 → pointer % 4 ≡ 0 → n % 4 ≡ 0 → Pointer length (nextOf length pointer n)
   next-right l f g =
-      ⊎-elim (λ c. record { fours = ap (λ (k : ℕ). k % 4) (c .0) ∙ omega arith; below = omega arith }) (λ c. record { fours = ap (λ (k : ℕ). k % 4) (c .0) ∙ omega arith; below = omega arith }) next-cases
+      ⊎-elim (λ c. record { fours = ap (λ (k : ℕ). k % 4) (c .0) ∙ omega arith; below = omega arith })
+      (λ c. record { fours = ap (λ (k : ℕ). k % 4) (c .0) ∙ omega arith; below = omega arith }) next-cases
 
   -- two steps are one
   pub next-next : (m : ℕ) → n + m ≤ length → nextOf length (nextOf length pointer n) m ≡ nextOf length pointer (n + m)
@@ -85,24 +88,29 @@ module _ (length pointer n : ℕ) (p : pointer < length) (s : n ≤ length) wher
   next-next m h = mod-add-mod (pointer + n) length m ∙ ap (λ (k : ℕ). k % length) (add-assoc pointer n m)
 
 -- the write pointer stands after what is filled
-pub next-filled : (length read write : ℕ) → read < length → write < length → nextOf length read (filledOf length read write) ≡ write
+pub next-filled : (length read write : ℕ) → read < length → write < length
+    → nextOf length read (filledOf length read write) ≡ write
 next-filled length read write r w =
     ⊎-elim
     (λ c. ap (nextOf length read) (c .0) ∙ next-near length read (write - read) (omega arith) ∙ omega arith)
-    (λ c. ap (nextOf length read) (c .0) ∙ next-over length read (length + write - read) (omega arith) (omega arith) ∙ omega arith)
+    (λ c. ap (nextOf length read) (c .0) ∙ next-over length read (length + write - read) (omega arith) (omega arith)
+    ∙ omega arith)
     (filled-cases length read write r w)
 
 -- as many bytes after a pointer as are filled
 pub filled-next : (length read n : ℕ) → read < length → n < length → filledOf length read (nextOf length read n) ≡ n
 filled-next length read n r h =
     ⊎-elim
-    (λ c. ap (filledOf length read) (c .0) ∙ filled-near length read (read + n) (omega arith) (omega arith) ∙ omega arith)
-    (λ c. ap (filledOf length read) (c .0) ∙ filled-over length read (read + n - length) (omega arith) (omega arith) ∙ omega arith)
+    (λ c. ap (filledOf length read) (c .0) ∙ filled-near length read (read + n) (omega arith) (omega arith)
+    ∙ omega arith)
+    (λ c. ap (filledOf length read) (c .0) ∙ filled-over length read (read + n - length) (omega arith) (omega arith)
+    ∙ omega arith)
     (next-cases length read n r (omega arith))
 
 module _ (length read write n : ℕ) (r : read < length) (w : write < length) where
   -- n bytes put in
-  pub filled-written : filledOf length read write + n < length → filledOf length read (nextOf length write n) ≡ filledOf length read write + n
+  pub filled-written : filledOf length read write + n < length
+      → filledOf length read (nextOf length write n) ≡ filledOf length read write + n
   filled-written h =
       let f = filled-below length read write r w in
       ap (λ (p : ℕ). filledOf length read (nextOf length p n)) (sym (next-filled length read write r w))
@@ -110,12 +118,16 @@ module _ (length read write n : ℕ) (r : read < length) (w : write < length) wh
       ∙ filled-next length read (filledOf length read write + n) r h
 
   -- n bytes taken out
-  pub filled-taken : n ≤ filledOf length read write → filledOf length (nextOf length read n) write ≡ filledOf length read write - n
+  pub filled-taken : n ≤ filledOf length read write
+      → filledOf length (nextOf length read n) write ≡ filledOf length read write - n
   filled-taken h =
       let f = filled-below length read write r w in
       let rest : n + (filledOf length read write - n) ≡ filledOf length read write = omega arith in
-      ap (filledOf length (nextOf length read n)) (sym (next-filled length read write r w) ∙ ap (nextOf length read) (sym rest) ∙ sym (next-next length read n r (omega arith) (filledOf length read write - n) (omega arith)))
-      ∙ filled-next length (nextOf length read n) (filledOf length read write - n) (next-below length read n (omega arith)) (omega arith)
+      ap (filledOf length (nextOf length read n))
+      (sym (next-filled length read write r w) ∙ ap (nextOf length read) (sym rest)
+      ∙ sym (next-next length read n r (omega arith) (filledOf length read write - n) (omega arith)))
+      ∙ filled-next length (nextOf length read n) (filledOf length read write - n)
+      (next-below length read n (omega arith)) (omega arith)
 
 module _ (length read write : ℕ) (l : Length length) (r : Pointer length read) (w : Pointer length write) where
   pub filled-fours : filledOf length read write % 4 ≡ 0
@@ -124,7 +136,8 @@ module _ (length read write : ℕ) (l : Length length) (r : Pointer length read)
       let b = w .fours in
       let d = l .fours in
       let under = r .below in
-      ⊎-elim (λ c. ap (λ (k : ℕ). k % 4) (c .0) ∙ omega arith) (λ c. ap (λ (k : ℕ). k % 4) (c .0) ∙ omega arith) (filled-cases length read write (r .below) (w .below))
+      ⊎-elim (λ c. ap (λ (k : ℕ). k % 4) (c .0) ∙ omega arith) (λ c. ap (λ (k : ℕ). k % 4) (c .0) ∙ omega arith)
+      (filled-cases length read write (r .below) (w .below))
 
   pub filled-high : filledOf length read write + 4 ≤ length
   filled-high = omega (arith, filled-below length read write (r .below) (w .below), filled-fours, l .fours)
@@ -133,7 +146,8 @@ module _ (length read write : ℕ) (l : Length length) (r : Pointer length read)
   pub filled-header : (read ≡ write → ⊥) → 4 ≤ filledOf length read write
   filled-header some =
       by-cases (decLt (filledOf length read write) 4)
-      (λ (h : filledOf length read write < 4). absurd (some (filled-empty length read write (r .below) (w .below) (omega (arith, filled-fours)))))
+      (λ (h : filledOf length read write < 4). absurd
+      (some (filled-empty length read write (r .below) (w .below) (omega (arith, filled-fours)))))
       (λ (h : filledOf length read write < 4 → ⊥). omega arith)
 
   -- "Room is length − filled − 4"

@@ -36,24 +36,46 @@ module _ (most filled header next : ℕ) where
     pub judged-13-padding : wholeOf header < 4 + paddingField header → judged most filled header next ≡ refused 13
     unfolding judged
     judged-13-padding h =
-        rw (le-ltb filled 4 (omega arith), le-ltb filled (wholeOf header) held, lt-ltb (wholeOf header) (4 + paddingField header) h)
+        rw (
+          le-ltb filled 4 (omega arith),
+          le-ltb filled (wholeOf header) held,
+          lt-ltb (wholeOf header) (4 + paddingField header) h,
+        )
 
     module _ (counted : 4 + paddingField header ≤ wholeOf header) where
       pub judged-14 : (typeField header ≡ mctpType → ⊥) → judged most filled header next ≡ skipped 14 next
       unfolding judged
       judged-14 h =
-          rw (le-ltb filled 4 (omega arith), le-ltb filled (wholeOf header) held, le-ltb (wholeOf header) (4 + paddingField header) counted, ne-eqb (typeField header) mctpType h)
+          rw (
+            le-ltb filled 4 (omega arith),
+            le-ltb filled (wholeOf header) held,
+            le-ltb (wholeOf header) (4 + paddingField header) counted,
+            ne-eqb (typeField header) mctpType h,
+          )
 
       module _ (ours : typeField header ≡ mctpType) where
         pub judged-3 : packetSize most (sizeOf header) ≡ false → judged most filled header next ≡ skipped 3 next
         unfolding judged
         judged-3 h =
-            rw (le-ltb filled 4 (omega arith), le-ltb filled (wholeOf header) held, le-ltb (wholeOf header) (4 + paddingField header) counted, eq-eqb (typeField header) mctpType ours, h)
+            rw (
+              le-ltb filled 4 (omega arith),
+              le-ltb filled (wholeOf header) held,
+              le-ltb (wholeOf header) (4 + paddingField header) counted,
+              eq-eqb (typeField header) mctpType ours,
+              h,
+            )
 
-        pub judged-packet : packetSize most (sizeOf header) ≡ true → judged most filled header next ≡ packet (sizeOf header) next
+        pub judged-packet : packetSize most (sizeOf header) ≡ true
+            → judged most filled header next ≡ packet (sizeOf header) next
         unfolding judged
         judged-packet h =
-            rw (le-ltb filled 4 (omega arith), le-ltb filled (wholeOf header) held, le-ltb (wholeOf header) (4 + paddingField header) counted, eq-eqb (typeField header) mctpType ours, h)
+            rw (
+              le-ltb filled 4 (omega arith),
+              le-ltb filled (wholeOf header) held,
+              le-ltb (wholeOf header) (4 + paddingField header) counted,
+              eq-eqb (typeField header) mctpType ours,
+              h,
+            )
 
 -- what 1 lets through
 pub record SetUp (most configured lent : ℕ) : Type 0 where
@@ -71,20 +93,27 @@ set-up-facts most configured lent e =
 
 pub set-up-holds : (most configured lent : ℕ) → SetUp most configured lent → setUpRight most configured lent ≡ true
 set-up-holds most configured lent h =
-    rw (within-holds 64 246 most (h .low) (h .high), length-holds configured (h .size), eq-eqb configured lent (h .same))
+    rw (
+      within-holds 64 246 most (h .low) (h .high),
+      length-holds configured (h .size),
+      eq-eqb configured lent (h .same),
+    )
 
 -- what 12 lets through
-pub pointers-facts : (configured read write : ℕ) → pointersRight configured read write ≡ true → Pointer configured read × Pointer configured write
+pub pointers-facts : (configured read write : ℕ) → pointersRight configured read write ≡ true
+    → Pointer configured read × Pointer configured write
 pointers-facts configured read write e =
     let h = both (pointerRight configured read) (pointerRight configured write) e in
     (pointer-facts configured read (h .0), pointer-facts configured write (h .1))
 
-pub pointers-holds : (configured read write : ℕ) → Pointer configured read → Pointer configured write → pointersRight configured read write ≡ true
+pub pointers-holds : (configured read write : ℕ) → Pointer configured read → Pointer configured write
+    → pointersRight configured read write ≡ true
 pointers-holds configured read write r w = rw (pointer-holds configured read r, pointer-holds configured write w)
 
 -- which inputs get 1, 2, 11, 12 and EMPTY, and which come to a packet
 module _ (most : ℕ) (ring : List ℕ) (configured : ℕ) (readable : Bool) (read write output : ℕ) where
-  pub taken-1 : setUpRight most configured (length ring) ≡ false → takenOf most ring configured readable read write output ≡ refused 1
+  pub taken-1 : setUpRight most configured (length ring) ≡ false
+      → takenOf most ring configured readable read write output ≡ refused 1
   unfolding takenOf
   taken-1 h = rw h
 
@@ -99,7 +128,8 @@ module _ (most : ℕ) (ring : List ℕ) (configured : ℕ) (readable : Bool) (re
       taken-11 h = rw (set-up, le-ltb output (4 + most) room, h)
 
       module _ (may : readable ≡ true) where
-        pub taken-12 : pointersRight configured read write ≡ false → takenOf most ring configured readable read write output ≡ refused 12
+        pub taken-12 : pointersRight configured read write ≡ false
+            → takenOf most ring configured readable read write output ≡ refused 12
         unfolding takenOf
         taken-12 h = rw (set-up, le-ltb output (4 + most) room, may, h)
 
@@ -108,25 +138,42 @@ module _ (most : ℕ) (ring : List ℕ) (configured : ℕ) (readable : Bool) (re
           unfolding takenOf
           taken-empty h = rw (set-up, le-ltb output (4 + most) room, may, pointers, eq-eqb read write h)
 
-          pub taken-found : (read ≡ write → ⊥) → takenOf most ring configured readable read write output ≡ foundOf most ring read write
+          pub taken-found : (read ≡ write → ⊥)
+              → takenOf most ring configured readable read write output ≡ foundOf most ring read write
           unfolding takenOf
           taken-found h = rw (set-up, le-ltb output (4 + most) room, may, pointers, ne-eqb read write h)
 
 -- which packets get 13, 14 and 3: "number and the pointer after the packet"
-module _ (most : ℕ) (ring : List ℕ) (configured : ℕ) (readable : Bool) (read write output : ℕ) (found : takenOf most ring configured readable read write output ≡ foundOf most ring read write) where
-  pub taken-13-whole : filledOf (length ring) read write < wholeOf (headerAt (turn read ring)) → takenOf most ring configured readable read write output ≡ refused 13
-  taken-13-whole h = found ∙ judged-13-whole most (filledOf (length ring) read write) (headerAt (turn read ring)) (nextOf (length ring) read (wholeOf (headerAt (turn read ring)))) h
+module _ (most : ℕ) (ring : List ℕ) (configured : ℕ) (readable : Bool) (read write output : ℕ)
+    (found : takenOf most ring configured readable read write output ≡ foundOf most ring read write) where
+  pub taken-13-whole : filledOf (length ring) read write < wholeOf (headerAt (turn read ring))
+      → takenOf most ring configured readable read write output ≡ refused 13
+  taken-13-whole h =
+      found ∙ judged-13-whole most (filledOf (length ring) read write) (headerAt (turn read ring))
+      (nextOf (length ring) read (wholeOf (headerAt (turn read ring)))) h
 
   module _ (held : wholeOf (headerAt (turn read ring)) ≤ filledOf (length ring) read write) where
-    pub taken-13-padding : wholeOf (headerAt (turn read ring)) < 4 + paddingField (headerAt (turn read ring)) → takenOf most ring configured readable read write output ≡ refused 13
-    taken-13-padding h = found ∙ judged-13-padding most (filledOf (length ring) read write) (headerAt (turn read ring)) (nextOf (length ring) read (wholeOf (headerAt (turn read ring)))) held h
+    pub taken-13-padding : wholeOf (headerAt (turn read ring)) < 4 + paddingField (headerAt (turn read ring))
+        → takenOf most ring configured readable read write output ≡ refused 13
+    taken-13-padding h =
+        found ∙ judged-13-padding most (filledOf (length ring) read write) (headerAt (turn read ring))
+        (nextOf (length ring) read (wholeOf (headerAt (turn read ring)))) held h
 
     module _ (counted : 4 + paddingField (headerAt (turn read ring)) ≤ wholeOf (headerAt (turn read ring))) where
-      pub taken-14 : (typeField (headerAt (turn read ring)) ≡ mctpType → ⊥) → takenOf most ring configured readable read write output ≡ skipped 14 (nextOf (length ring) read (wholeOf (headerAt (turn read ring))))
-      taken-14 h = found ∙ judged-14 most (filledOf (length ring) read write) (headerAt (turn read ring)) (nextOf (length ring) read (wholeOf (headerAt (turn read ring)))) held counted h
+      pub taken-14 : (typeField (headerAt (turn read ring)) ≡ mctpType → ⊥)
+          → takenOf most ring configured readable read write output
+          ≡ skipped 14 (nextOf (length ring) read (wholeOf (headerAt (turn read ring))))
+      taken-14 h =
+          found ∙ judged-14 most (filledOf (length ring) read write) (headerAt (turn read ring))
+          (nextOf (length ring) read (wholeOf (headerAt (turn read ring)))) held counted h
 
-      pub taken-3 : typeField (headerAt (turn read ring)) ≡ mctpType → packetSize most (sizeOf (headerAt (turn read ring))) ≡ false → takenOf most ring configured readable read write output ≡ skipped 3 (nextOf (length ring) read (wholeOf (headerAt (turn read ring))))
-      taken-3 ours h = found ∙ judged-3 most (filledOf (length ring) read write) (headerAt (turn read ring)) (nextOf (length ring) read (wholeOf (headerAt (turn read ring)))) held counted ours h
+      pub taken-3 : typeField (headerAt (turn read ring)) ≡ mctpType
+          → packetSize most (sizeOf (headerAt (turn read ring))) ≡ false
+          → takenOf most ring configured readable read write output
+          ≡ skipped 3 (nextOf (length ring) read (wholeOf (headerAt (turn read ring))))
+      taken-3 ours h =
+          found ∙ judged-3 most (filledOf (length ring) read write) (headerAt (turn read ring))
+          (nextOf (length ring) read (wholeOf (headerAt (turn read ring)))) held counted ours h
 
 -- what a header that passes for a packet says
 pub record Passed (most filled header after size next : ℕ) : Type 0 where
@@ -139,14 +186,16 @@ pub record Passed (most filled header after size next : ℕ) : Type 0 where
   pub on : next ≡ after
 
 -- what a good input is, each fact by its name
-pub record Good (most : ℕ) (ring : List ℕ) (configured : ℕ) (readable : Bool) (read write output size next : ℕ) : Type 0 where
+pub record Good (most : ℕ) (ring : List ℕ) (configured : ℕ) (readable : Bool)
+    (read write output size next : ℕ) : Type 0 where
   pub set-up : SetUp most configured (length ring)
   pub room : 4 + most ≤ output
   pub may : readable ≡ true
   pub from : Pointer configured read
   pub to : Pointer configured write
   pub some : read ≡ write → ⊥
-  pub header : Passed most (filledOf configured read write) (headerAt (turn read ring)) (nextOf configured read (wholeOf (headerAt (turn read ring)))) size next
+  pub header : Passed most (filledOf configured read write) (headerAt (turn read ring))
+      (nextOf configured read (wholeOf (headerAt (turn read ring)))) size next
 
 -- no other answer is a packet
 not-refused : (n size next : ℕ) → refused n ≡ packet size next → ⊥
@@ -158,14 +207,18 @@ not-skipped n p size next e = let z : _≡_ {A = ℕ} 0 1 = cc in omega arith
 not-empty : (size next : ℕ) → empty ≡ packet size next → ⊥
 not-empty size next e = let z : _≡_ {A = ℕ} 0 1 = cc in omega arith
 
-passed : (most filled header after size next : ℕ) → judged most filled header after ≡ packet size next → Passed most filled header after size next
+passed : (most filled header after size next : ℕ) → judged most filled header after ≡ packet size next
+    → Passed most filled header after size next
 unfolding judged
 passed most filled header after size next e =
     let a = past (ltb filled 4) (refused 13) _ (packet size next) (not-refused 13 size next) e in
     let b = past (ltb filled (wholeOf header)) (refused 13) _ (packet size next) (not-refused 13 size next) (a .1) in
-    let d = past (ltb (wholeOf header) (4 + paddingField header)) (refused 13) _ (packet size next) (not-refused 13 size next) (b .1) in
-    let f = past (not (eqb (typeField header) mctpType)) (skipped 14 after) _ (packet size next) (not-skipped 14 after size next) (d .1) in
-    let g = past (not (packetSize most (sizeOf header))) (skipped 3 after) _ (packet size next) (not-skipped 3 after size next) (f .1) in
+    let d = past (ltb (wholeOf header) (4 + paddingField header)) (refused 13) _ (packet size next)
+    (not-refused 13 size next) (b .1) in
+    let f = past (not (eqb (typeField header) mctpType)) (skipped 14 after) _ (packet size next)
+    (not-skipped 14 after size next) (d .1) in
+    let g = past (not (packetSize most (sizeOf header))) (skipped 3 after) _ (packet size next)
+    (not-skipped 3 after size next) (f .1) in
     let same : sizeOf header ≡ size = cc (g .1) in
     let on : after ≡ next = cc (g .1) in
     let bounds = within-bounds 5 (4 + most) (sizeOf header) (not-false (packetSize most (sizeOf header)) (g .0)) in
@@ -181,15 +234,19 @@ passed most filled header after size next e =
 
 module _ (most : ℕ) (ring : List ℕ) (configured : ℕ) (readable : Bool) (read write output size next : ℕ) where
   -- a reading that gives a packet was of a good input
-  pub good : takenOf most ring configured readable read write output ≡ packet size next → Good most ring configured readable read write output size next
+  pub good : takenOf most ring configured readable read write output ≡ packet size next
+      → Good most ring configured readable read write output size next
   unfolding takenOf
   good e =
-      let a = past (not (setUpRight most configured (length ring))) (refused 1) _ (packet size next) (not-refused 1 size next) e in
+      let a = past (not (setUpRight most configured (length ring))) (refused 1) _ (packet size next)
+      (not-refused 1 size next) e in
       let b = past (ltb output (4 + most)) (refused 2) _ (packet size next) (not-refused 2 size next) (a .1) in
       let d = past (not readable) (refused 11) _ (packet size next) (not-refused 11 size next) (b .1) in
-      let f = past (not (pointersRight configured read write)) (refused 12) _ (packet size next) (not-refused 12 size next) (d .1) in
+      let f = past (not (pointersRight configured read write)) (refused 12) _ (packet size next)
+      (not-refused 12 size next) (d .1) in
       let g = past (eqb read write) empty _ (packet size next) (not-empty size next) (f .1) in
-      let set-up = set-up-facts most configured (length ring) (not-false (setUpRight most configured (length ring)) (a .0)) in
+      let set-up = set-up-facts most configured (length ring)
+      (not-false (setUpRight most configured (length ring)) (a .0)) in
       let pointers = pointers-facts configured read write (not-false (pointersRight configured read write) (f .0)) in
       record {
         set-up = set-up;
@@ -198,17 +255,24 @@ module _ (most : ℕ) (ring : List ℕ) (configured : ℕ) (readable : Bool) (re
         from = pointers .0;
         to = pointers .1;
         some = eqb-false read write (g .0);
-        header = rw (set-up .same) (passed most (filledOf (length ring) read write) (headerAt (turn read ring)) (nextOf (length ring) read (wholeOf (headerAt (turn read ring)))) size next (g .1));
+        header =
+            rw (set-up .same) (passed most (filledOf (length ring) read write) (headerAt (turn read ring))
+            (nextOf (length ring) read (wholeOf (headerAt (turn read ring)))) size next (g .1));
       }
 
   -- and a good input is read
-  pub good-taken : Good most ring configured readable read write output size next → takenOf most ring configured readable read write output ≡ packet size next
+  pub good-taken : Good most ring configured readable read write output size next
+      → takenOf most ring configured readable read write output ≡ packet size next
   good-taken h =
       let w = headerAt (turn read ring) in
       let p = h .header in
-      taken-found most ring configured readable read write output (set-up-holds most configured (length ring) (h .set-up)) (h .room) (h .may) (pointers-holds configured read write (h .from) (h .to)) (h .some)
+      taken-found most ring configured readable read write output
+      (set-up-holds most configured (length ring) (h .set-up)) (h .room) (h .may)
+      (pointers-holds configured read write (h .from) (h .to)) (h .some)
       ∙ ap (λ (n : ℕ). judged most (filledOf n read write) w (nextOf n read (wholeOf w))) (sym (h .set-up .same))
-      ∙ judged-packet most (filledOf configured read write) w (nextOf configured read (wholeOf w)) (p .held) (p .counted) (p .ours) (within-holds 5 (4 + most) (sizeOf w) (omega (arith, p .least, p .sized)) (omega (arith, p .largest, p .sized)))
+      ∙ judged-packet most (filledOf configured read write) w (nextOf configured read (wholeOf w)) (p .held)
+      (p .counted) (p .ours) (within-holds 5 (4 + most) (sizeOf w) (omega (arith, p .least, p .sized))
+      (omega (arith, p .largest, p .sized)))
       ∙ cc (p .sized, p .on)
 
   module _ (h : Good most ring configured readable read write output size next) where
@@ -216,7 +280,14 @@ module _ (most : ℕ) (ring : List ℕ) (configured : ℕ) (readable : Bool) (re
     pub good-short : 4 + size < length ring
     good-short =
         let p = h .header in
-        omega (arith, p .held, p .counted, p .sized, h .set-up .same, filled-below configured read write (h .from .below) (h .to .below))
+        omega (
+          arith,
+          p .held,
+          p .counted,
+          p .sized,
+          h .set-up .same,
+          filled-below configured read write (h .from .below) (h .to .below),
+        )
 
     -- the packet stands four bytes after the read pointer
     pub good-packet : take size (turn (nextOf configured read 4) ring) ≡ packetOf (turn read ring)
@@ -246,7 +317,9 @@ other-packet : (size next : ℕ) → packet size next ≡ refused 1 → ⊥
 other-packet size next e = let z : _≡_ {A = ℕ} 0 1 = cc in omega arith
 
 -- a ring of a right length, lent whole, never gets 1
-pub taken-not-1 : (most : ℕ) (ring : List ℕ) (configured : ℕ) (readable : Bool) (read write output : ℕ) → setUpRight most configured (length ring) ≡ true → takenOf most ring configured readable read write output ≡ refused 1 → ⊥
+pub taken-not-1 : (most : ℕ) (ring : List ℕ) (configured : ℕ) (readable : Bool) (read write output : ℕ)
+    → setUpRight most configured (length ring) ≡ true
+    → takenOf most ring configured readable read write output ≡ refused 1 → ⊥
 unfolding takenOf judged
 taken-not-1 most ring configured readable read write output set-up e =
     let w = headerAt (turn read ring) in
@@ -255,11 +328,13 @@ taken-not-1 most ring configured readable read write output set-up e =
     let a = rw set-up at e in
     let b = past (ltb output (4 + most)) (refused 2) _ (refused 1) (other-number 2 (λ (z : 2 ≡ 1). omega arith)) a .1 in
     let d = past (not readable) (refused 11) _ (refused 1) (other-number 11 (λ (z : 11 ≡ 1). omega arith)) b .1 in
-    let g = past (not (pointersRight configured read write)) (refused 12) _ (refused 1) (other-number 12 (λ (z : 12 ≡ 1). omega arith)) d .1 in
+    let g = past (not (pointersRight configured read write)) (refused 12) _ (refused 1)
+    (other-number 12 (λ (z : 12 ≡ 1). omega arith)) d .1 in
     let h = past (eqb read write) empty _ (refused 1) other-empty g .1 in
     let i = past (ltb f 4) (refused 13) _ (refused 1) (other-number 13 (λ (z : 13 ≡ 1). omega arith)) h .1 in
     let j = past (ltb f (wholeOf w)) (refused 13) _ (refused 1) (other-number 13 (λ (z : 13 ≡ 1). omega arith)) i .1 in
-    let k = past (ltb (wholeOf w) (4 + paddingField w)) (refused 13) _ (refused 1) (other-number 13 (λ (z : 13 ≡ 1). omega arith)) j .1 in
+    let k = past (ltb (wholeOf w) (4 + paddingField w)) (refused 13) _ (refused 1)
+    (other-number 13 (λ (z : 13 ≡ 1). omega arith)) j .1 in
     let l = past (not (eqb (typeField w) mctpType)) (skipped 14 next) _ (refused 1) (other-skip 14 next) k .1 in
     let m = past (not (packetSize most (sizeOf w))) (skipped 3 next) _ (refused 1) (other-skip 3 next) l .1 in
     other-packet (sizeOf w) next m

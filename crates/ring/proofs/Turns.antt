@@ -7,7 +7,8 @@ use Prim.Native.Nat.{ℕ, _+_, _-_, _≤_, _<_}
 use native.Mathlib.Nat.{zero-add}
 use native.Mathlib.Omega.{arith}
 use lib.ListN.{length, take, drop, length-append, length-take, length-drop, take-append-drop}
-use lib.Seq.{take-append-le, drop-append-le, take-append-add, drop-append-add, take-take, drop-drop, take-add, take-at, drop-at, length-take-le}
+use lib.Seq.{take-append-le, drop-append-le, take-append-add, drop-append-add, take-take, drop-drop, take-add, take-at}
+use lib.Seq.{drop-at, length-take-le}
 use Rattle.octets.specs.Bytes.{laid, fronted}
 use Rattle.octets.proofs.Laid.{laid-fits, laid-front, laid-append, laid-length}
 use Rattle.ring.specs.Numbers.{nextOf}
@@ -25,7 +26,8 @@ turn-seam a b p e = rw (drop-at a b p e, take-at a b p e)
 
 pub turn-back : (p : ℕ) (ring : List ℕ) → p ≤ length ring → turn (length ring - p) (turn p ring) ≡ ring
 unfolding turn
-turn-back p ring h = turn-seam (drop p ring) (take p ring) (length ring - p) (length-drop p ring) ∙ take-append-drop p ring
+turn-back p ring h =
+    turn-seam (drop p ring) (take p ring) (length ring - p) (length-drop p ring) ∙ take-append-drop p ring
 
 pub turn-there : (p : ℕ) (s : List ℕ) → p ≤ length s → turn p (turn (length s - p) s) ≡ s
 unfolding turn
@@ -40,7 +42,13 @@ module _ (ring : List ℕ) (p n : ℕ) (below : p < length ring) (fits : n ≤ l
   near h =
       let d = length-drop p ring in
       let inside : n ≤ length (drop p ring) = omega arith in
-      rw (drop-append-le n (drop p ring) (take p ring) inside, take-append-le n (drop p ring) (take p ring) inside, append-assoc (drop n (drop p ring)) (take p ring) (take n (drop p ring)), drop-drop n p ring, take-add p n ring)
+      rw (
+        drop-append-le n (drop p ring) (take p ring) inside,
+        take-append-le n (drop p ring) (take p ring) inside,
+        append-assoc (drop n (drop p ring)) (take p ring) (take n (drop p ring)),
+        drop-drop n p ring,
+        take-add p n ring,
+      )
 
   over : length ring ≤ p + n → turn n (turn p ring) ≡ turn (p + n - length ring) ring
   unfolding turn
@@ -50,7 +58,14 @@ module _ (ring : List ℕ) (p n : ℕ) (below : p < length ring) (fits : n ≤ l
       let head : length (take p ring) ≡ p = length-take-le p ring (omega arith) in
       let inside : m ≤ length (take p ring) = omega arith in
       ap (λ (k : ℕ). drop k (drop p ring ++ take p ring) ++ take k (drop p ring ++ take p ring)) split
-      ∙ rw (drop-append-add (drop p ring) (take p ring) m, take-append-add (drop p ring) (take p ring) m, ← append-assoc (drop m (take p ring)) (drop p ring) (take m (take p ring)), ← drop-append-le m (take p ring) (drop p ring) inside, take-append-drop p ring, take-take m p ring (omega arith))
+      ∙ rw (
+        drop-append-add (drop p ring) (take p ring) m,
+        take-append-add (drop p ring) (take p ring) m,
+        ← append-assoc (drop m (take p ring)) (drop p ring) (take m (take p ring)),
+        ← drop-append-le m (take p ring) (drop p ring) inside,
+        take-append-drop p ring,
+        take-take m p ring (omega arith),
+      )
 
   pub turn-turn : turn n (turn p ring) ≡ turn (nextOf (length ring) p n) ring
   turn-turn =
@@ -62,26 +77,34 @@ module _ (ring : List ℕ) (p n : ℕ) (below : p < length ring) (fits : n ≤ l
 -- two rings that are equal once turned are equal
 pub turn-injective : (p : ℕ) (a b : List ℕ) → p ≤ length a → length a ≡ length b → turn p a ≡ turn p b → a ≡ b
 turn-injective p a b h l e =
-    sym (turn-back p a h) ∙ ap (λ (s : List ℕ). turn (length a - p) s) e ∙ ap (λ (n : ℕ). turn (n - p) (turn p b)) l ∙ turn-back p b (omega arith)
+    sym (turn-back p a h) ∙ ap (λ (s : List ℕ). turn (length a - p) s) e ∙ ap (λ (n : ℕ). turn (n - p) (turn p b)) l
+    ∙ turn-back p b (omega arith)
 
 pub fronted-length : (out bytes : List ℕ) → length bytes ≤ length out → length (fronted out bytes) ≡ length out
 unfolding fronted
-fronted-length out bytes h = length-append bytes (drop (length bytes) out) ∙ omega (arith, length-drop (length bytes) out)
+fronted-length out bytes h =
+    length-append bytes (drop (length bytes) out) ∙ omega (arith, length-drop (length bytes) out)
 
-pub stored-length : (ring : List ℕ) (p : ℕ) (bytes : List ℕ) → length bytes ≤ length ring → length (stored ring p bytes) ≡ length ring
+pub stored-length : (ring : List ℕ) (p : ℕ) (bytes : List ℕ) → length bytes ≤ length ring
+    → length (stored ring p bytes) ≡ length ring
 unfolding stored
 stored-length ring p bytes h =
-    turn-length (length ring - p) (fronted (turn p ring) bytes) ∙ fronted-length (turn p ring) bytes (omega (arith, turn-length p ring)) ∙ turn-length p ring
+    turn-length (length ring - p) (fronted (turn p ring) bytes)
+    ∙ fronted-length (turn p ring) bytes (omega (arith, turn-length p ring)) ∙ turn-length p ring
 
 -- what is stored at a pointer stands at the front from there
-pub stored-here : (ring : List ℕ) (p : ℕ) (bytes : List ℕ) → p ≤ length ring → length bytes ≤ length ring → turn p (stored ring p bytes) ≡ fronted (turn p ring) bytes
+pub stored-here : (ring : List ℕ) (p : ℕ) (bytes : List ℕ) → p ≤ length ring → length bytes ≤ length ring
+    → turn p (stored ring p bytes) ≡ fronted (turn p ring) bytes
 unfolding stored
 stored-here ring p bytes h k =
-    let l : length (fronted (turn p ring) bytes) ≡ length ring = fronted-length (turn p ring) bytes (omega (arith, turn-length p ring)) ∙ turn-length p ring in
-    ap (λ (n : ℕ). turn p (turn (n - p) (fronted (turn p ring) bytes))) (sym l) ∙ turn-there p (fronted (turn p ring) bytes) (omega arith)
+    let l : length (fronted (turn p ring) bytes) ≡ length ring =
+    fronted-length (turn p ring) bytes (omega (arith, turn-length p ring)) ∙ turn-length p ring in
+    ap (λ (n : ℕ). turn p (turn (n - p) (fronted (turn p ring) bytes))) (sym l)
+    ∙ turn-there p (fronted (turn p ring) bytes) (omega arith)
 
 -- turned by f, put to the front and turned back: laid over the list from f on
-fronted-behind : (s : List ℕ) (f : ℕ) (bytes : List ℕ) → f + length bytes ≤ length s → fronted (turn f s) bytes ≡ turn f (laid s f bytes)
+fronted-behind : (s : List ℕ) (f : ℕ) (bytes : List ℕ) → f + length bytes ≤ length s
+    → fronted (turn f s) bytes ≡ turn f (laid s f bytes)
 unfolding fronted turn
 fronted-behind s f bytes h =
     let d = length-drop f s in
@@ -93,7 +116,8 @@ fronted-behind s f bytes h =
     ∙ append-assoc bytes (drop (f + length bytes) s) (take f s)))
 
 -- stored f bytes behind a pointer: seen from the pointer, laid over the list from f on
-pub stored-behind : (ring : List ℕ) (p f : ℕ) (bytes : List ℕ) → p < length ring → f + length bytes ≤ length ring → turn p (stored ring (nextOf (length ring) p f) bytes) ≡ laid (turn p ring) f bytes
+pub stored-behind : (ring : List ℕ) (p f : ℕ) (bytes : List ℕ) → p < length ring → f + length bytes ≤ length ring
+    → turn p (stored ring (nextOf (length ring) p f) bytes) ≡ laid (turn p ring) f bytes
 stored-behind ring p f bytes h k =
     let q = nextOf (length ring) p f in
     let under : q < length ring = next-below (length ring) p f (omega arith) in
@@ -124,7 +148,9 @@ module _ (ring : List ℕ) (p : ℕ) (below : p < length ring) where
       (second ∙ first ∙ sym all)
       (ap (λ (n : ℕ). turn p (stored (stored ring p a) (nextOf n p (length a)) b)) (sym first)
       ∙ stored-behind (stored ring p a) p (length a) b (omega arith) (omega arith)
-      ∙ ap (λ (s : List ℕ). laid s (length a) b) (stored-here ring p a (omega arith) (omega arith) ∙ sym (laid-front (turn p ring) a (omega (arith, turn-length p ring))))
+      ∙ ap (λ (s : List ℕ). laid s (length a) b)
+      (stored-here ring p a (omega arith) (omega arith)
+      ∙ sym (laid-front (turn p ring) a (omega (arith, turn-length p ring))))
       ∙ ap (λ (n : ℕ). laid (laid (turn p ring) 0 a) n b) (sym (zero-add (length a)))
       ∙ sym (laid-append (turn p ring) 0 a b)
       ∙ laid-front (turn p ring) (a ++ b) (omega (arith, turn-length p ring))
@@ -136,7 +162,8 @@ unfolding turn
 turn-none ring = append-nil ring
 
 -- what ends before the ring's end is stored in one run
-pub stored-straight : (ring : List ℕ) (p : ℕ) (bytes : List ℕ) → p < length ring → p + length bytes ≤ length ring → laid ring p bytes ≡ stored ring p bytes
+pub stored-straight : (ring : List ℕ) (p : ℕ) (bytes : List ℕ) → p < length ring → p + length bytes ≤ length ring
+    → laid ring p bytes ≡ stored ring p bytes
 stored-straight ring p bytes h k =
     ap (λ (s : List ℕ). laid s p bytes) (sym (turn-none ring))
     ∙ sym (stored-behind ring 0 p bytes (omega arith) (omega arith))
@@ -144,14 +171,16 @@ stored-straight ring p bytes h k =
     ∙ ap (λ (q : ℕ). stored ring q bytes) (next-near (length ring) 0 p (omega arith) ∙ zero-add p)
 
 -- what runs over the end is stored in two
-pub stored-round : (ring : List ℕ) (p : ℕ) (bytes : List ℕ) → p < length ring → length bytes ≤ length ring → length ring - p < length bytes
+pub stored-round : (ring : List ℕ) (p : ℕ) (bytes : List ℕ) → p < length ring → length bytes ≤ length ring
+    → length ring - p < length bytes
     → laid (laid ring p (take (length ring - p) bytes)) 0 (drop (length ring - p) bytes) ≡ stored ring p bytes
 stored-round ring p bytes h k over =
     let m = length ring - p in
     let first : length (take m bytes) ≡ m = length-take-le m bytes (omega arith) in
     let second = length-drop m bytes in
     let size = stored-length ring p (take m bytes) (omega arith) in
-    let front : nextOf (length ring) p (length (take m bytes)) ≡ 0 = next-over (length ring) p (length (take m bytes)) (omega arith) (omega arith) ∙ omega arith in
+    let front : nextOf (length ring) p (length (take m bytes)) ≡ 0 =
+    next-over (length ring) p (length (take m bytes)) (omega arith) (omega arith) ∙ omega arith in
     ap (λ (s : List ℕ). laid s 0 (drop m bytes)) (stored-straight ring p (take m bytes) h (omega arith))
     ∙ stored-straight (stored ring p (take m bytes)) 0 (drop m bytes) (omega arith) (omega arith)
     ∙ ap (λ (q : ℕ). stored (stored ring p (take m bytes)) q (drop m bytes)) (sym front)

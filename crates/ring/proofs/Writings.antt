@@ -33,16 +33,19 @@ module _ (most lent configured : ℕ) (running : Bool) (read write size : ℕ) w
       put-11 h = rw (set-up, sized, h)
 
       module _ (runs : running ≡ true) where
-        pub put-12 : pointersRight configured read write ≡ false → putOf most lent configured running read write size ≡ refused 12
+        pub put-12 : pointersRight configured read write ≡ false
+            → putOf most lent configured running read write size ≡ refused 12
         unfolding putOf
         put-12 h = rw (set-up, sized, runs, h)
 
         module _ (pointers : pointersRight configured read write ≡ true) where
-          pub put-2 : roomOf configured read write < wholeFor size → putOf most lent configured running read write size ≡ refused 2
+          pub put-2 : roomOf configured read write < wholeFor size
+              → putOf most lent configured running read write size ≡ refused 2
           unfolding putOf
           put-2 h = rw (set-up, sized, runs, pointers, lt-ltb (roomOf configured read write) (wholeFor size) h)
 
-          pub put-written : wholeFor size ≤ roomOf configured read write → putOf most lent configured running read write size ≡ written (nextOf configured write (wholeFor size))
+          pub put-written : wholeFor size ≤ roomOf configured read write
+              → putOf most lent configured running read write size ≡ written (nextOf configured write (wholeFor size))
           unfolding putOf
           put-written h = rw (set-up, sized, runs, pointers, le-ltb (roomOf configured read write) (wholeFor size) h)
 
@@ -63,14 +66,17 @@ not-refused n next e = let z : _≡_ {A = ℕ} 0 1 = cc in omega arith
 
 module _ (most lent configured : ℕ) (running : Bool) (read write size next : ℕ) where
   -- a writing that gives a pointer was of a good input
-  pub good : putOf most lent configured running read write size ≡ written next → Good most lent configured running read write size next
+  pub good : putOf most lent configured running read write size ≡ written next
+      → Good most lent configured running read write size next
   unfolding putOf
   good e =
       let a = past (not (setUpRight most configured lent)) (refused 1) _ (written next) (not-refused 1 next) e in
       let b = past (not (packetSize most size)) (refused 3) _ (written next) (not-refused 3 next) (a .1) in
       let d = past (not running) (refused 11) _ (written next) (not-refused 11 next) (b .1) in
-      let f = past (not (pointersRight configured read write)) (refused 12) _ (written next) (not-refused 12 next) (d .1) in
-      let g = past (ltb (roomOf configured read write) (wholeFor size)) (refused 2) _ (written next) (not-refused 2 next) (f .1) in
+      let f = past (not (pointersRight configured read write)) (refused 12) _ (written next) (not-refused 12 next)
+      (d .1) in
+      let g = past (ltb (roomOf configured read write) (wholeFor size)) (refused 2) _ (written next)
+      (not-refused 2 next) (f .1) in
       let bounds = within-bounds 5 (4 + most) size (not-false (packetSize most size) (b .0)) in
       let pointers = pointers-facts configured read write (not-false (pointersRight configured read write) (f .0)) in
       let on : nextOf configured write (wholeFor size) ≡ next = cc (g .1) in
@@ -86,13 +92,17 @@ module _ (most lent configured : ℕ) (running : Bool) (read write size next : �
       }
 
   -- and a good input is written
-  pub good-written : Good most lent configured running read write size next → putOf most lent configured running read write size ≡ written next
+  pub good-written : Good most lent configured running read write size next
+      → putOf most lent configured running read write size ≡ written next
   good-written h =
-      put-written most lent configured running read write size (set-up-holds most configured lent (h .set-up)) (within-holds 5 (4 + most) size (h .least) (h .largest)) (h .runs) (pointers-holds configured read write (h .from) (h .to)) (h .room)
+      put-written most lent configured running read write size (set-up-holds most configured lent (h .set-up))
+      (within-holds 5 (4 + most) size (h .least) (h .largest)) (h .runs)
+      (pointers-holds configured read write (h .from) (h .to)) (h .room)
       ∙ ap written (sym (h .after))
 
   -- what is filled and what is written stay below the ring's length by four at least
-  pub good-fits : Good most lent configured running read write size next → filledOf configured read write + wholeFor size + 4 ≤ configured
+  pub good-fits : Good most lent configured running read write size next
+      → filledOf configured read write + wholeFor size + 4 ≤ configured
   good-fits h = omega (arith, h .room, filled-room configured read write (h .set-up .size) (h .from) (h .to))
 
   -- a full ring never looks empty: the new write pointer is not the read pointer
@@ -108,13 +118,17 @@ other-number : (n : ℕ) → (n ≡ 1 → ⊥) → refused n ≡ refused 1 → �
 other-number n other e = let z : n ≡ 1 = cc in other z
 
 -- a ring of a right length, lent whole, never gets 1
-pub put-not-1 : (most lent configured : ℕ) (running : Bool) (read write size : ℕ) → setUpRight most configured lent ≡ true → putOf most lent configured running read write size ≡ refused 1 → ⊥
+pub put-not-1 : (most lent configured : ℕ) (running : Bool) (read write size : ℕ)
+    → setUpRight most configured lent ≡ true → putOf most lent configured running read write size ≡ refused 1 → ⊥
 unfolding putOf
 put-not-1 most lent configured running read write size set-up e =
     let a = rw set-up at e in
-    let b = past (not (packetSize most size)) (refused 3) _ (refused 1) (other-number 3 (λ (z : 3 ≡ 1). omega arith)) a .1 in
+    let b = past (not (packetSize most size)) (refused 3) _ (refused 1)
+    (other-number 3 (λ (z : 3 ≡ 1). omega arith)) a .1 in
     let d = past (not running) (refused 11) _ (refused 1) (other-number 11 (λ (z : 11 ≡ 1). omega arith)) b .1 in
-    let f = past (not (pointersRight configured read write)) (refused 12) _ (refused 1) (other-number 12 (λ (z : 12 ≡ 1). omega arith)) d .1 in
-    let g = past (ltb (roomOf configured read write) (wholeFor size)) (refused 2) _ (refused 1) (other-number 2 (λ (z : 2 ≡ 1). omega arith)) f .1 in
+    let f = past (not (pointersRight configured read write)) (refused 12) _ (refused 1)
+    (other-number 12 (λ (z : 12 ≡ 1). omega arith)) d .1 in
+    let g = past (ltb (roomOf configured read write) (wholeFor size)) (refused 2) _ (refused 1)
+    (other-number 2 (λ (z : 2 ≡ 1). omega arith)) f .1 in
     let z : _≡_ {A = ℕ} 0 1 = cc (g) in
     omega arith

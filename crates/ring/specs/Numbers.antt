@@ -1,4 +1,5 @@
--- A ring's numbers: its length, its pointers, what is filled and what is left (document 01, "MMBI descriptor, state and ring").
+-- A ring's numbers: its length, its pointers, what is filled and what is left (document 01, "MMBI descriptor, state and
+-- ring").
 -- Assumes nothing.
 use Prim.Native.Nat.{ℕ, _+_, _-_, _%_}
 use mathlib.Core.Bool.{Bool, _&&_}

@@ -1,4 +1,5 @@
--- A packet in the ring (Table 6 of 003): a header of four bytes, the MCTP packet, padding. The header is a word with its highest byte first (003, 4.2).
+-- A packet in the ring (Table 6 of 003): a header of four bytes, the MCTP packet, padding. The header is a word with
+-- its highest byte first (003, 4.2).
 -- Assumes nothing.
 use mathlib.Core.Path.{_≡_}
 use Prim.Native.Nat.{ℕ, _+_, _-_, _*_, _/_, _%_, _<_}
@@ -50,9 +51,11 @@ wholeFor n = 4 + n + paddingFor n
 unfoldable pub headerFor : ℕ → ℕ
 headerFor n = (wholeFor n / 4 - 1) * 1024 + paddingFor n * 256 + mctpType
 
--- "the header of Table 6 of 003, with MCTP's type, then the MCTP packet, then padding to a multiple of 4, zero when written"
+-- "the header of Table 6 of 003, with MCTP's type, then the MCTP packet, then padding to a multiple of 4, zero when
+-- written"
 unfoldable pub ringBytes : List ℕ → List ℕ
-ringBytes packet = wordBytes highFirst (headerFor (length packet)) ++ (packet ++ replicate (paddingFor (length packet)) 0)
+ringBytes packet =
+    wordBytes highFirst (headerFor (length packet)) ++ (packet ++ replicate (paddingFor (length packet)) 0)
 
 -- as any maker may write it: "[7:4] – Reserved" of byte 3, and padding of any bytes
 abbrev pub ringWith : ℕ → List ℕ → List ℕ → List ℕ

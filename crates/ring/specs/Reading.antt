@@ -33,8 +33,8 @@ saidOf Empty = empty
 saidOf (Skipped refusal next) = skipped (numberOf refusal) next
 saidOf (Refused refusal) = refused (numberOf refusal)
 
--- what a header says to a reader who knows how much is filled: "13 (header or whole packet longer than filled, or the header's length too
--- small for the header and padding it counts), 14, 3"; `next` is the pointer after the packet
+-- what a header says to a reader who knows how much is filled: "13 (header or whole packet longer than filled, or the
+-- header's length too small for the header and padding it counts), 14, 3"; `next` is the pointer after the packet
 unfoldable pub judged : ℕ → ℕ → ℕ → ℕ → Said
 judged most filled header next =
     pick (ltb filled 4) (refused 13)
@@ -47,10 +47,12 @@ judged most filled header next =
 -- the packet that stands at the read pointer
 abbrev pub foundOf : ℕ → List ℕ → ℕ → ℕ → Said
 foundOf most ring read write =
-    judged most (filledOf (length ring) read write) (headerAt (turn read ring)) (nextOf (length ring) read (wholeOf (headerAt (turn read ring))))
+    judged most (filledOf (length ring) read write) (headerAt (turn read ring))
+    (nextOf (length ring) read (wholeOf (headerAt (turn read ring))))
 
--- "Reading order: 1 (length outside the rule, or not that of the lent ring), 2 (output under 68), 11, 12 (either pointer not a multiple of 4, or
--- not below the length), EMPTY, 13, 14, 3"; 68 is 4 + `most`, and 11 is for a state in which no ring may be read
+-- "Reading order: 1 (length outside the rule, or not that of the lent ring), 2 (output under 68), 11, 12 (either
+-- pointer not a multiple of 4, or not below the length), EMPTY, 13, 14, 3"; 68 is 4 + `most`, and 11 is for a state in
+-- which no ring may be read
 unfoldable pub takenOf : ℕ → List ℕ → ℕ → Bool → ℕ → ℕ → ℕ → Said
 takenOf most ring configured readable read write output =
     pick (not (setUpRight most configured (length ring))) (refused 1)

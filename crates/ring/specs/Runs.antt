@@ -68,7 +68,8 @@ unfoldable pub allReadable : List Flags → Bool
 allReadable [] = true
 allReadable (flags ∷ states) = mayRead (stateOf flags) && allReadable states
 
--- a packet taken from the output's front, and then what is read from the pointer after it; nothing where there is no packet
+-- a packet taken from the output's front, and then what is read from the pointer after it; nothing where there is no
+-- packet
 abbrev pub andThen : reading.Said → List ℕ → (ℕ → List (List ℕ)) → List (List ℕ)
 andThen (reading.packet size next) output rest = take size output ∷ rest next
 andThen reading.empty output rest = []

@@ -22,7 +22,8 @@ pub enum Taken {
     Refused(Refusal),
 }
 
-// The header at a pointer. Pointers are multiples of 4, as the length is, so its four bytes don't run over the ring's end.
+// The header at a pointer. Pointers are multiples of 4, as the length is, so its four bytes don't run over the ring's
+// end.
 fn header_at(ring: &[u8], at: usize) -> u32
     ensures { λ r. ⌜ r ≡ wordAt highFirst (now (ring .entry)) at ⌝ }
 {
@@ -98,7 +99,8 @@ pub fn read_up_to(
     write: usize,
     out: &mut [u8],
 ) -> Taken
-    ensures { λ r. ⌜ left (saidOf r) (now (out .exit)) ≡ readOf most (now (ring .entry)) configured readable read write (now (out .entry)) ⌝ }
+    ensures { λ r. ⌜ left (saidOf r) (now (out .exit))
+        ≡ readOf most (now (ring .entry)) configured readable read write (now (out .entry)) ⌝ }
 {
     let taken = find(most, ring, configured, readable, read, write, out.len());
     match taken {
@@ -123,7 +125,8 @@ pub fn read(
     write: usize,
     out: &mut [u8],
 ) -> Taken
-    ensures { λ r. ⌜ left (saidOf r) (now (out .exit)) ≡ readOf 64 (now (ring .entry)) configured (mayRead (stateOf flags)) read write (now (out .entry)) ⌝ }
+    ensures { λ r. ⌜ left (saidOf r) (now (out .exit))
+        ≡ readOf 64 (now (ring .entry)) configured (mayRead (stateOf flags)) read write (now (out .entry)) ⌝ }
 {
     let readable = mmbi::may_read(mmbi::state(flags));
     read_up_to(

@@ -77,7 +77,8 @@ fn lay_header(ring: &mut [u8], at: usize, header: u32)
 
 // The packet with its header and its padding, stored from the write pointer on.
 fn fill(ring: &mut [u8], write: usize, packet: &[u8])
-    requires { ⌜ (length (now ring) ≤ 65536) × (write + 4 ≤ length (now ring)) × (length (now packet) ≤ 250) × (wholeFor (length (now packet)) ≤ length (now ring)) ⌝ }
+    requires { ⌜ (length (now ring) ≤ 65536) × (write + 4 ≤ length (now ring)) × (length (now packet) ≤ 250)
+        × (wholeFor (length (now packet)) ≤ length (now ring)) ⌝ }
     ensures { λ _. ⌜ now (ring .exit) ≡ stored (now (ring .entry)) write (ringBytes (now (packet .entry))) ⌝ }
 {
     let size = packet.len();
@@ -103,7 +104,8 @@ pub fn write_up_to(
     write: usize,
     packet: &[u8],
 ) -> Put
-    ensures { λ r. ⌜ left (saidOf r) (now (ring .exit)) ≡ writeOf most (now (ring .entry)) configured running read write (now (packet .entry)) ⌝ }
+    ensures { λ r. ⌜ left (saidOf r) (now (ring .exit))
+        ≡ writeOf most (now (ring .entry)) configured running read write (now (packet .entry)) ⌝ }
 {
     let put = judge(
         most,
@@ -132,7 +134,8 @@ pub fn write(
     write: usize,
     packet: &[u8],
 ) -> Put
-    ensures { λ r. ⌜ left (saidOf r) (now (ring .exit)) ≡ writeOf 64 (now (ring .entry)) configured (mayWrite (stateOf flags)) read write (now (packet .entry)) ⌝ }
+    ensures { λ r. ⌜ left (saidOf r) (now (ring .exit))
+        ≡ writeOf 64 (now (ring .entry)) configured (mayWrite (stateOf flags)) read write (now (packet .entry)) ⌝ }
 {
     let running = mmbi::may_write(mmbi::state(flags));
     write_up_to(

@@ -81,4 +81,14 @@ pub no-requires : ((κs : Lfts 0) (a : _) → set-up.Pre κs a)
     × ((κs : Lfts 0) (a : _) → slot-of.Pre κs a)
     × ((κs : Lfts 0) (a : _) → lowest.Pre κs a)
     × ((κs : Lfts 0) (a : _) → state-at.Pre κs a)
-no-requires = ((λ κs a. tt), (λ κs a. tt), (λ κs a. tt), (λ κs a. tt), (λ κs a. tt), (λ κs a. tt), (λ κs a. tt), (λ κs a. tt), (λ κs a. tt))
+no-requires = (
+  (λ κs a. tt),
+  (λ κs a. tt),
+  (λ κs a. tt),
+  (λ κs a. tt),
+  (λ κs a. tt),
+  (λ κs a. tt),
+  (λ κs a. tt),
+  (λ κs a. tt),
+  (λ κs a. tt),
+)

@@ -38,7 +38,8 @@ module _ (f : SlotState → Bool) (l : List Slot) where
     pub passes : k < i + n → f (slotAt l k) ≡ true
     pub none : (j : ℕ) → i ≤ j → j < k → f (slotAt l j) ≡ false
 
-  step : (i n : ℕ) (b : Bool) → f (slotAt l i) ≡ b → First (suc i) n (firstOf f l (suc i) n) → First i (suc n) (firstOf f l i (suc n))
+  step : (i n : ℕ) (b : Bool) → f (slotAt l i) ≡ b → First (suc i) n (firstOf f l (suc i) n)
+      → First i (suc n) (firstOf f l i (suc n))
   step i n true e r =
       rw (first-here i n e)
       (record {
@@ -56,7 +57,9 @@ module _ (f : SlotState → Bool) (l : List Slot) where
         low = omega (arith, r .low);
         high = omega (arith, r .high);
         passes = λ h. r .passes (omega arith);
-        none = λ j a b. dite (ℕ-discrete i j) (λ (s : i ≡ j). ap (λ (k : ℕ). f (slotAt l k)) (sym s) ∙ e) (λ (n : i ≡ j → ⊥). r .none j (omega arith) b);
+        none =
+            λ j a b. dite (ℕ-discrete i j) (λ (s : i ≡ j). ap (λ (k : ℕ). f (slotAt l k)) (sym s) ∙ e)
+            (λ (n : i ≡ j → ⊥). r .none j (omega arith) b);
       })
 
   pub first : (i n : ℕ) → First i n (firstOf f l i n)
@@ -132,7 +135,8 @@ module _ (l : List Slot) where
 -- in a right state
 module _ (most : ℕ) (r : Receiver) (R : Right most r) (k : Key) where
   -- no two slots have one key
-  pub key-alone : (i j : ℕ) → i < 4 → j < 4 → (i ≡ j → ⊥) → hasKey k (slotAt (r .slots) i) ≡ true → hasKey k (slotAt (r .slots) j) ≡ false
+  pub key-alone : (i j : ℕ) → i < 4 → j < 4 → (i ≡ j → ⊥) → hasKey k (slotAt (r .slots) i) ≡ true
+      → hasKey k (slotAt (r .slots) j) ≡ false
   key-alone i j hi hj n e = sym (clash-key k (slotAt (r .slots) i) (slotAt (r .slots) j) e) ∙ R .apart i j hi hj n
 
   -- the slot that has a key is its slot

@@ -29,11 +29,26 @@ numbers-of most q u h e =
     let c = both _ _ (b .0) in
     let d = both _ _ (c .0) in
     let m = both (leb 1 u) (eqb (h % u) 0) (d .1) in
-    record { unit-low = leb-true 1 u (m .0); unit-high = leb-true u most (d .0); whole = eqb-true (h % u) 0 (m .1); held-low = leb-true 1 h (c .1); held-high = leb-true h 1024 (b .1); sequence = leb-true q 3 (a .1) }
+    record {
+      unit-low = leb-true 1 u (m .0);
+      unit-high = leb-true u most (d .0);
+      whole = eqb-true (h % u) 0 (m .1);
+      held-low = leb-true 1 h (c .1);
+      held-high = leb-true h 1024 (b .1);
+      sequence = leb-true q 3 (a .1);
+    }
 
 pub numbers-hold : (most q u h : ℕ) → Numbers most q u h → rightNumbers most q u h ≡ true
 unfolding rightNumbers multiple
-numbers-hold most q u h n = rw (le-leb u most (n .unit-high), le-leb 1 u (n .unit-low), eq-eqb (h % u) 0 (n .whole), le-leb 1 h (n .held-low), le-leb h 1024 (n .held-high), le-leb q 3 (n .sequence))
+numbers-hold most q u h n =
+    rw (
+      le-leb u most (n .unit-high),
+      le-leb 1 u (n .unit-low),
+      eq-eqb (h % u) 0 (n .whole),
+      le-leb 1 h (n .held-low),
+      le-leb h 1024 (n .held-high),
+      le-leb q 3 (n .sequence),
+    )
 
 -- a gathering slot of a right state
 pub gathering-of : (most : ℕ) (s : Setup) (k : Key) (q u h : ℕ) → rightSlot most s (Gathering k q u h) ≡ true
@@ -44,7 +59,8 @@ gathering-of most s k q u h e =
     let b = both (rightNumbers most q u h) (leb (k .tag) 7) (a .0) in
     (numbers-of most q u h (b .0), leb-true (k .tag) 7 (b .1), a .1)
 
-pub gathering-holds : (most : ℕ) (s : Setup) (k : Key) (q u h : ℕ) → Numbers most q u h → k .tag ≤ 7 → oursOf s (k .destination .0) ≡ true
+pub gathering-holds : (most : ℕ) (s : Setup) (k : Key) (q u h : ℕ) → Numbers most q u h → k .tag ≤ 7
+    → oursOf s (k .destination .0) ≡ true
     → rightSlot most s (Gathering k q u h) ≡ true
 unfolding rightSlot
 gathering-holds most s k q u h n t o = rw (numbers-hold most q u h n, le-leb (k .tag) 7 t, o)

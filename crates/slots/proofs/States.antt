@@ -44,11 +44,15 @@ four-cases P a b c d (suc (suc (suc (suc i)))) h =
     absurd none
 
 -- a slot that has a key, and one that clashes, by what they hold
-pub has-key-true : (k : Key) (s : SlotState) → hasKey k s ≡ true → (q u h : ℕ) → (j : Key) → s ≡ Gathering j q u h → j ≡ k
+pub has-key-true : (k : Key) (s : SlotState) → hasKey k s ≡ true → (q u h : ℕ) → (j : Key) → s ≡ Gathering j q u h
+    → j ≡ k
 has-key-true k s e q u h j g = same-key-true j k (ap (hasKey k) (sym g) ∙ e)
 
 same-key-sym : (j k : Key) → sameKey j k ≡ sameKey k j
-same-key-sym j k = by-true (sameKey j k) (sameKey k j) (λ e. ap (λ (i : Key). sameKey i j) (sym (same-key-true j k e)) ∙ same-key-refl j) (λ e. ap (λ (i : Key). sameKey i k) (sym (same-key-true k j e)) ∙ same-key-refl k)
+same-key-sym j k =
+    by-true (sameKey j k) (sameKey k j)
+    (λ e. ap (λ (i : Key). sameKey i j) (sym (same-key-true j k e)) ∙ same-key-refl j)
+    (λ e. ap (λ (i : Key). sameKey i k) (sym (same-key-true k j e)) ∙ same-key-refl k)
   where
     by-true : (a b : Bool) → (a ≡ true → b ≡ true) → (b ≡ true → a ≡ true) → a ≡ b
     by-true true b f g = sym (f refl)
@@ -78,24 +82,33 @@ right-of most r e =
     let bc = both _ _ (bd .0) in
     let ad = both _ _ (bc .0) in
     let ab = both _ _ (ad .0) in
-    let turned : (i j : ℕ) → not (clash (slotAt l i) (slotAt l j)) ≡ true → clash (slotAt l j) (slotAt l i) ≡ false = λ i j t. clash-sym _ _ ∙ not-true _ t in
+    let turned : (i j : ℕ) → not (clash (slotAt l i) (slotAt l j)) ≡ true
+    → clash (slotAt l j) (slotAt l i) ≡ false = λ i j t. clash-sym _ _ ∙ not-true _ t in
     record {
       most-right = d .0;
       setup = d .1;
       four = eqb-true _ _ (a .1);
-      each = four-cases (λ i. rightSlot most (r .setup) (slotAt l i) ≡ true) (first .0) (first .1) (second .1) (third .1);
-      apart = λ i j hi hj. four-cases (λ (i : ℕ). (j : ℕ) → j < 4 → (i ≡ j → ⊥) → clash (slotAt l i) (slotAt l j) ≡ false)
-          (four-cases (λ (j : ℕ). (0 ≡ j → ⊥) → clash (slotAt l 0) (slotAt l j) ≡ false) (λ n. absurd (n refl)) (λ n. not-true _ (ab .0)) (λ n. not-true _ (ab .1)) (λ n. not-true _ (ad .1)))
-          (four-cases (λ (j : ℕ). (1 ≡ j → ⊥) → clash (slotAt l 1) (slotAt l j) ≡ false) (λ n. turned 0 1 (ab .0)) (λ n. absurd (n refl)) (λ n. not-true _ (bc .1)) (λ n. not-true _ (bd .1)))
-          (four-cases (λ (j : ℕ). (2 ≡ j → ⊥) → clash (slotAt l 2) (slotAt l j) ≡ false) (λ n. turned 0 2 (ab .1)) (λ n. turned 1 2 (bc .1)) (λ n. absurd (n refl)) (λ n. not-true _ (cd .1)))
-          (four-cases (λ (j : ℕ). (3 ≡ j → ⊥) → clash (slotAt l 3) (slotAt l j) ≡ false) (λ n. turned 0 3 (ad .1)) (λ n. turned 1 3 (bd .1)) (λ n. turned 2 3 (cd .1)) (λ n. absurd (n refl)))
+      each =
+          four-cases (λ i. rightSlot most (r .setup) (slotAt l i) ≡ true) (first .0) (first .1) (second .1) (third .1);
+      apart =
+          λ i j hi hj. four-cases (λ (i : ℕ). (j : ℕ) → j < 4 → (i ≡ j → ⊥) → clash (slotAt l i) (slotAt l j) ≡ false)
+          (four-cases (λ (j : ℕ). (0 ≡ j → ⊥) → clash (slotAt l 0) (slotAt l j) ≡ false) (λ n. absurd (n refl))
+          (λ n. not-true _ (ab .0)) (λ n. not-true _ (ab .1)) (λ n. not-true _ (ad .1)))
+          (four-cases (λ (j : ℕ). (1 ≡ j → ⊥) → clash (slotAt l 1) (slotAt l j) ≡ false) (λ n. turned 0 1 (ab .0))
+          (λ n. absurd (n refl)) (λ n. not-true _ (bc .1)) (λ n. not-true _ (bd .1)))
+          (four-cases (λ (j : ℕ). (2 ≡ j → ⊥) → clash (slotAt l 2) (slotAt l j) ≡ false) (λ n. turned 0 2 (ab .1))
+          (λ n. turned 1 2 (bc .1)) (λ n. absurd (n refl)) (λ n. not-true _ (cd .1)))
+          (four-cases (λ (j : ℕ). (3 ≡ j → ⊥) → clash (slotAt l 3) (slotAt l j) ≡ false) (λ n. turned 0 3 (ad .1))
+          (λ n. turned 1 3 (bd .1)) (λ n. turned 2 3 (cd .1)) (λ n. absurd (n refl)))
           i hi j hj;
     }
 
 pub right-holds : (most : ℕ) (r : Receiver) → Right most r → rightState most r ≡ true
 unfolding rightState
 right-holds most r R =
-    let free : (i j : ℕ) → i < 4 → j < 4 → i < j → clash (slotAt (r .slots) i) (slotAt (r .slots) j) ≡ false = λ i j hi hj h. R .apart i j hi hj (λ e. omega arith) in
+    let free : (i j : ℕ) → i < 4 → j < 4 → i < j
+    → clash (slotAt (r .slots) i) (slotAt (r .slots) j) ≡ false =
+    λ i j hi hj h. R .apart i j hi hj (λ e. omega arith) in
     rw (
       R .most-right,
       R .setup,
@@ -120,11 +133,14 @@ most-bounds most r e = within-bounds 64 246 most (right-of most r e .most-right)
 pub slot-same : (l : List Slot) (i : ℕ) (s : SlotState) → i < length l → slotAt (set l i (record { state = s })) i ≡ s
 slot-same l i s h = ap (λ (x : Slot). x .state) (getD-set-same l i (record { state = s }) (record { state = Free }) h)
 
-pub slot-other : (l : List Slot) (i j : ℕ) (s : SlotState) → (j ≡ i → ⊥) → slotAt (set l i (record { state = s })) j ≡ slotAt l j
-slot-other l i j s n = ap (λ (x : Slot). x .state) (getD-set-other l i j (record { state = s }) (record { state = Free }) n)
+pub slot-other : (l : List Slot) (i j : ℕ) (s : SlotState) → (j ≡ i → ⊥)
+    → slotAt (set l i (record { state = s })) j ≡ slotAt l j
+slot-other l i j s n =
+    ap (λ (x : Slot). x .state) (getD-set-other l i j (record { state = s }) (record { state = Free }) n)
 
 -- a right state stays right where one slot gets a right state whose key no other slot has
-module _ (most : ℕ) (r : Receiver) (R : Right most r) (i : ℕ) (s : SlotState) (h : i < 4) (right : rightSlot most (r .setup) s ≡ true)
+module _ (most : ℕ) (r : Receiver) (R : Right most r) (i : ℕ) (s : SlotState) (h : i < 4)
+    (right : rightSlot most (r .setup) s ≡ true)
     (alone : (j : ℕ) → j < 4 → (i ≡ j → ⊥) → clash s (slotAt (r .slots) j) ≡ false) where
   in-range : i < length (r .slots)
   in-range = omega (arith, R .four)

@@ -1,4 +1,5 @@
--- The slots of a receiver: one by its number, one by its key, the lowest that is free. As many as were looked through stands for none.
+-- The slots of a receiver: one by its number, one by its key, the lowest that is free. As many as were looked through
+-- stands for none.
 -- Assumes nothing.
 use Prim.Native.Nat.{ℕ, zero, suc}
 use mathlib.Core.Bool.{Bool, true, false}

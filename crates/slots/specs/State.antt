@@ -16,14 +16,17 @@ use Rattle.slots.specs.Slots.{slotAt, hasKey}
 unfoldable pub multiple : ℕ → ℕ → Bool
 multiple unit held = leb 1 unit && eqb (held % unit) 0
 
--- "Held is a positive multiple of the unit, at most 1,024; unit is 1 to 64; sequence is 0 to 3": 64 is the largest body, `most`
+-- "Held is a positive multiple of the unit, at most 1,024; unit is 1 to 64; sequence is 0 to 3": 64 is the largest
+-- body, `most`
 unfoldable pub rightNumbers : ℕ → ℕ → ℕ → ℕ → Bool
-rightNumbers most sequence unit held = leb unit most && multiple unit held && leb 1 held && leb held 1024 && leb sequence 3
+rightNumbers most sequence unit held =
+    leb unit most && multiple unit held && leb 1 held && leb held 1024 && leb sequence 3
 
 -- "tag 0 to 7 .. a key's destination is one that 16 lets through"; nothing is said of a key's source, so any is right
 unfoldable pub rightSlot : ℕ → Setup → SlotState → Bool
 rightSlot most s Free = true
-rightSlot most s (Gathering key sequence unit held) = rightNumbers most sequence unit held && leb (key .tag) 7 && oursOf s (key .destination .0)
+rightSlot most s (Gathering key sequence unit held) =
+    rightNumbers most sequence unit held && leb (key .tag) 7 && oursOf s (key .destination .0)
 
 -- two slots have one key
 unfoldable pub clash : SlotState → SlotState → Bool
@@ -35,7 +38,8 @@ fourRight most s a b c d = rightSlot most s a && rightSlot most s b && rightSlot
 
 -- "no two slots have one key": six pairs
 abbrev pub fourApart : SlotState → SlotState → SlotState → SlotState → Bool
-fourApart a b c d = not (clash a b) && not (clash a c) && not (clash a d) && not (clash b c) && not (clash b d) && not (clash c d)
+fourApart a b c d =
+    not (clash a b) && not (clash a c) && not (clash a d) && not (clash b c) && not (clash b d) && not (clash c d)
 
 -- "The receiver has an own EID (0 or 8 to 254), four slots": the whole list
 unfoldable pub rightState : ℕ → Receiver → Bool

@@ -42,7 +42,8 @@ module _ (most : ℕ) (frame : List ℕ) (own : ℕ) where
   named : (why : Refusal) → refusalOf most frame own ≡ numberOf why → refusalOf most frame own ≡ 0 → ⊥
   named why e z = omega (arith, number-positive why)
 
-  pub says-refused : (why : Refusal) → refusalOf most frame own ≡ numberOf why → saysCarried (Refused why) ≡ carriedOf most frame own
+  pub says-refused : (why : Refusal) → refusalOf most frame own ≡ numberOf why
+      → saysCarried (Refused why) ≡ carriedOf most frame own
   unfolding carriedOf
   says-refused why e = rw (e, no-source (named why e))
 

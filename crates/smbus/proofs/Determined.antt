@@ -21,15 +21,21 @@ use Rattle.smbus.proofs.writing.write.Reads as writing
 -- Answers that say the same are the same.
 pub carried-injective : (a b : Carried) → saysCarried a ≡ saysCarried b → a ≡ b
 carried-injective (carried.Packet x) (carried.Packet y) e = ap carried.Packet (ap (λ (r : Read). r .source) e)
-carried-injective (carried.Packet x) (carried.Refused why) e = absurd (omega (arith, number-positive why, ap (λ (r : Read). r .number) e))
-carried-injective (carried.Refused why) (carried.Packet y) e = absurd (omega (arith, number-positive why, ap (λ (r : Read). r .number) e))
-carried-injective (carried.Refused why) (carried.Refused other) e = ap carried.Refused (number-injective why other (ap (λ (r : Read). r .number) e))
+carried-injective (carried.Packet x) (carried.Refused why) e =
+    absurd (omega (arith, number-positive why, ap (λ (r : Read). r .number) e))
+carried-injective (carried.Refused why) (carried.Packet y) e =
+    absurd (omega (arith, number-positive why, ap (λ (r : Read). r .number) e))
+carried-injective (carried.Refused why) (carried.Refused other) e =
+    ap carried.Refused (number-injective why other (ap (λ (r : Read). r .number) e))
 
 pub written-injective : (a b : Written) → saysWritten a ≡ saysWritten b → a ≡ b
 written-injective (written.Frame m) (written.Frame n) e = ap written.Frame (ap (λ (p : Put). p .size) e)
-written-injective (written.Frame m) (written.Refused why) e = absurd (omega (arith, number-positive why, ap (λ (p : Put). p .number) e))
-written-injective (written.Refused why) (written.Frame n) e = absurd (omega (arith, number-positive why, ap (λ (p : Put). p .number) e))
-written-injective (written.Refused why) (written.Refused other) e = ap written.Refused (number-injective why other (ap (λ (p : Put). p .number) e))
+written-injective (written.Frame m) (written.Refused why) e =
+    absurd (omega (arith, number-positive why, ap (λ (p : Put). p .number) e))
+written-injective (written.Refused why) (written.Frame n) e =
+    absurd (omega (arith, number-positive why, ap (λ (p : Put). p .number) e))
+written-injective (written.Refused why) (written.Refused other) e =
+    ap written.Refused (number-injective why other (ap (λ (p : Put). p .number) e))
 
 -- The part holds the same bytes; where it lies is not said.
 pub packet-determined : (κs : Lfts 1) (a r q e f : _) → packet.Post κs a r e → packet.Post κs a q f → now r ≡ now q
@@ -48,7 +54,8 @@ pub carried-determined : (κs : Lfts 1) (a r q e f : _) → carrying.Post κs a 
 carried-determined κs a r q e f p o = carried-injective r q (determined p o)
 
 -- The answer and the output.
-pub write-determined : (κs : Lfts 2) (a r q e f : _) → writing.Post κs a r e → writing.Post κs a q f → (r ≡ q) × (now (e .0) ≡ now (f .0))
+pub write-determined : (κs : Lfts 2) (a r q e f : _) → writing.Post κs a r e → writing.Post κs a q f
+    → (r ≡ q) × (now (e .0) ≡ now (f .0))
 write-determined κs a r q e f p o = (written-injective r q (determined (p .0) (o .0)), determined (p .1) (o .1))
 
 -- No call asks anything of its arguments first.

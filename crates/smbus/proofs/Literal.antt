@@ -47,11 +47,13 @@ literal-answer room h =
     written-all 64 room 5 32 17 (omega arith) (omega arith) (omega arith) (omega arith) (omega arith) (omega arith) h in
     rw number
 
-pub literal-output : (out : List ℕ) → 10 ≤ length out → outputOf 64 out literalPacket 32 17 ≡ literalFrame ++ drop 10 out
+pub literal-output : (out : List ℕ) → 10 ≤ length out
+    → outputOf 64 out literalPacket 32 17 ≡ literalFrame ++ drop 10 out
 unfolding fronted
 literal-output out h =
     output-written 64 out literalPacket 32 17
-    (written-all 64 (length out) 5 32 17 (omega arith) (omega arith) (omega arith) (omega arith) (omega arith) (omega arith) h)
+    (written-all 64 (length out) 5 32 17 (omega arith) (omega arith) (omega arith) (omega arith) (omega arith)
+    (omega arith) h)
     ∙ ap (fronted out) literal-frame
 
 -- the limits of the checks: "own address over 127", "frame not 10 to 73 bytes", "packet size"

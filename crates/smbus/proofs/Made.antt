@@ -1,4 +1,5 @@
--- What is good is what the layout makes: a good frame is the frame of its own packet, and that packet has a packet's size.
+-- What is good is what the layout makes: a good frame is the frame of its own packet, and that packet has a packet's
+-- size.
 -- Assumes nothing.
 use mathlib.Core.Path.{_≡_, sym, ap, _∙_}
 use mathlib.Core.List.{List, [], _∷_, _++_}
@@ -37,7 +38,8 @@ module _ (most : ℕ) (frame : List ℕ) (own : ℕ) (g : Good most frame own) w
       let source : getD frame 3 0 ≡ sender * 2 + 1 = omega (arith, g .sender) in
       ap (λ (k : ℕ). take k frame) n
       ∙ take-add 4 (length frame - 5) frame
-      ∙ ap (λ (l : List ℕ). l ++ partOf frame) (four frame (omega (arith, g .sized .short)) ∙ (λ i. destination i ∷ command i ∷ count i ∷ source i ∷ []))
+      ∙ ap (λ (l : List ℕ). l ++ partOf frame)
+      (four frame (omega (arith, g .sized .short)) ∙ (λ i. destination i ∷ command i ∷ count i ∷ source i ∷ []))
 
   -- and it is the frame of that packet, to `own` from its sender
   pub good-frame : frame ≡ frameOf own sender (partOf frame)

@@ -10,7 +10,8 @@ use Rattle.pec.specs.Wire.{Bytes}
 use Rattle.pec.proofs.Fold.{pec-byte}
 use Rattle.smbus.specs.Frame.{headOf, coveredOf, frameOf}
 
-module _ (destination source : ℕ) (packet : List ℕ) (to : destination ≤ 127) (by : source ≤ 127) (long : length packet ≤ 250) where
+module _ (destination source : ℕ) (packet : List ℕ) (to : destination ≤ 127) (by : source ≤ 127)
+    (long : length packet ≤ 250) where
   head-bytes : Bytes (headOf destination source packet)
   unfolding headOf
   head-bytes zero = omega arith

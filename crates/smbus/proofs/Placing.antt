@@ -1,4 +1,5 @@
--- Which packets may be written and which number the others get, a law for each; what is said of them, and what the output then holds.
+-- Which packets may be written and which number the others get, a law for each; what is said of them, and what the
+-- output then holds.
 -- Assumes nothing.
 use mathlib.Core.Path.{_≡_, sym, ap, _∙_}
 use mathlib.Core.Bool.{false, not}
@@ -40,7 +41,8 @@ module _ (most room size destination source : ℕ) where
       unwritten-source h = rw (within-holds 64 246 most least largest, le-ltb 127 destination to, lt-ltb 127 source h)
 
       module _ (by : source ≤ 127) where
-        addressed : writeRefusal most room size destination source ≡ pick (not (packetSize most size)) 3 (pick (ltb room (frameSize size)) 2 0)
+        addressed : writeRefusal most room size destination source
+            ≡ pick (not (packetSize most size)) 3 (pick (ltb room (frameSize size)) 2 0)
         unfolding writeRefusal
         addressed = rw (within-holds 64 246 most least largest, le-ltb 127 destination to, le-ltb 127 source by)
 
@@ -89,11 +91,13 @@ module _ (most room size destination source : ℕ) where
       }
 
   -- What is said of either.
-  pub says-frame : writeRefusal most room size destination source ≡ 0 → saysWritten (Frame (frameSize size)) ≡ writtenOf most room size destination source
+  pub says-frame : writeRefusal most room size destination source ≡ 0
+      → saysWritten (Frame (frameSize size)) ≡ writtenOf most room size destination source
   unfolding writtenOf
   says-frame e = rw e
 
-  named : (why : Refusal) → writeRefusal most room size destination source ≡ numberOf why → writeRefusal most room size destination source ≡ 0 → ⊥
+  named : (why : Refusal) → writeRefusal most room size destination source ≡ numberOf why
+      → writeRefusal most room size destination source ≡ 0 → ⊥
   named why e z = omega (arith, number-positive why)
 
   pub says-unwritten : (why : Refusal) → writeRefusal most room size destination source ≡ numberOf why
@@ -118,6 +122,7 @@ module _ (most : ℕ) (out packet : List ℕ) (destination source : ℕ) where
   unfolding outputOf
   output-written e = rw e
 
-  pub output-unwritten : (writeRefusal most (length out) (length packet) destination source ≡ 0 → ⊥) → outputOf most out packet destination source ≡ out
+  pub output-unwritten : (writeRefusal most (length out) (length packet) destination source ≡ 0 → ⊥)
+      → outputOf most out packet destination source ≡ out
   unfolding outputOf
   output-unwritten refused = rw (ne-eqb (writeRefusal most (length out) (length packet) destination source) 0 refused)

@@ -48,10 +48,16 @@ module _ (most : ℕ) (frame : List ℕ) (own : ℕ) where
         (pick (not (eqb (getD frame 3 0 % 2) 1)) 7
         (pick (not (eqb (endOf frame) (pecOf (beforeEnd frame)))) 8 0)))))
     unfolding refusalOf
-    front = rw (within-holds 64 246 most (sized .least) (sized .largest), le-ltb 127 own (sized .address), within-holds 10 (9 + most) (length frame) (sized .short) (sized .long))
+    front =
+        rw (
+          within-holds 64 246 most (sized .least) (sized .largest),
+          le-ltb 127 own (sized .address),
+          within-holds 10 (9 + most) (length frame) (sized .short) (sized .long),
+        )
 
     -- 4: "bit 0 set, or not ours"
-    pub refused-destination : (eqb (getD frame 0 0 % 2) 0 && eqb (getD frame 0 0 / 2) own) ≡ false → refusalOf most frame own ≡ 4
+    pub refused-destination : (eqb (getD frame 0 0 % 2) 0 && eqb (getD frame 0 0 / 2) own) ≡ false
+        → refusalOf most frame own ≡ 4
     refused-destination h = front ∙ either (eqb (getD frame 0 0 % 2) 0) (eqb (getD frame 0 0 / 2) own) _ h
       where
         either : (a b : Bool) (n : ℕ) → (a && b) ≡ false → pick (not a) 4 (pick (not b) 4 n) ≡ 4
@@ -76,19 +82,40 @@ module _ (most : ℕ) (frame : List ℕ) (own : ℕ) where
         module _ (command : getD frame 1 0 ≡ 15) where
           -- 6: "count + 4 not the frame's length"
           pub refused-count : (getD frame 2 0 + 4 ≡ length frame → ⊥) → refusalOf most frame own ≡ 6
-          refused-count h = rw (front, bit, eq-eqb (getD frame 0 0 / 2) own ours, command, ne-eqb (getD frame 2 0 + 4) (length frame) h)
+          refused-count h =
+              rw (
+                front,
+                bit,
+                eq-eqb (getD frame 0 0 / 2) own ours,
+                command,
+                ne-eqb (getD frame 2 0 + 4) (length frame) h,
+              )
 
           module _ (count : getD frame 2 0 + 4 ≡ length frame) where
             -- 7: "bit 0 of byte 3 clear"
             pub refused-source : (getD frame 3 0 % 2 ≡ 1 → ⊥) → refusalOf most frame own ≡ 7
             refused-source h =
-                rw (front, bit, eq-eqb (getD frame 0 0 / 2) own ours, command, eq-eqb (getD frame 2 0 + 4) (length frame) count, ne-eqb (getD frame 3 0 % 2) 1 h)
+                rw (
+                  front,
+                  bit,
+                  eq-eqb (getD frame 0 0 / 2) own ours,
+                  command,
+                  eq-eqb (getD frame 2 0 + 4) (length frame) count,
+                  ne-eqb (getD frame 3 0 % 2) 1 h,
+                )
 
             module _ (sender : getD frame 3 0 % 2 ≡ 1) where
               -- the checks of 1 to 7 are passed
               last : refusalOf most frame own ≡ pick (not (eqb (endOf frame) (pecOf (beforeEnd frame)))) 8 0
               last =
-                  rw (front, bit, eq-eqb (getD frame 0 0 / 2) own ours, command, eq-eqb (getD frame 2 0 + 4) (length frame) count, sender)
+                  rw (
+                    front,
+                    bit,
+                    eq-eqb (getD frame 0 0 / 2) own ours,
+                    command,
+                    eq-eqb (getD frame 2 0 + 4) (length frame) count,
+                    sender,
+                  )
 
               -- 8: the last byte is not the PEC of the others
               pub refused-check : (endOf frame ≡ pecOf (beforeEnd frame) → ⊥) → refusalOf most frame own ≡ 8
@@ -120,7 +147,13 @@ good most frame own e =
     let size = within-bounds 10 (9 + most) (length frame) (not-false _ (size′ .0)) in
     record {
       sized =
-          record { least = body .0; largest = body .1; address = ltb-false 127 own (own′ .0); short = size .0; long = size .1 };
+          record {
+            least = body .0;
+            largest = body .1;
+            address = ltb-false 127 own (own′ .0);
+            short = size .0;
+            long = size .1;
+          };
       bit = eqb-true (getD frame 0 0 % 2) 0 (not-false _ (bit′ .0));
       ours = eqb-true (getD frame 0 0 / 2) own (not-false _ (ours′ .0));
       command = eqb-true (getD frame 1 0) 15 (not-false _ (command′ .0));

@@ -1,4 +1,5 @@
--- What is written reads back: every packet has a good frame, and a frame gives the packet, the sender and the number 0 at its destination.
+-- What is written reads back: every packet has a good frame, and a frame gives the packet, the sender and the number 0
+-- at its destination.
 -- Assumes nothing.
 use mathlib.Core.Path.{_≡_, ap, _∙_}
 use mathlib.Core.List.{List, [], _∷_}
@@ -31,12 +32,14 @@ module _ (most destination source : ℕ) (packet : List ℕ) where
   unfolding frameOf coveredOf headOf
   source-frame = omega arith
 
-  module _ (least : 64 ≤ most) (largest : most ≤ 246) (to : destination ≤ 127) (short : 5 ≤ length packet) (long : length packet ≤ 4 + most) where
+  module _ (least : 64 ≤ most) (largest : most ≤ 246) (to : destination ≤ 127) (short : 5 ≤ length packet)
+      (long : length packet ≤ 4 + most) where
     -- "Every packet of 5 to 68 bytes has a good arrival": its frame, at its destination.
     pub frame-good : Good most frame destination
     unfolding frameOf coveredOf headOf endOf beforeEnd
     frame-good =
-        let n : length (frameOf destination source packet) ≡ 5 + length packet = frame-length destination source packet in
+        let n : length (frameOf destination source packet) ≡ 5 + length packet =
+        frame-length destination source packet in
         record {
           sized = record { least = least; largest = largest; address = to; short = omega arith; long = omega arith };
           bit = omega arith;
@@ -56,15 +59,18 @@ module _ (most destination source : ℕ) (packet : List ℕ) where
     pub frame-source : sourceAddressOf most frame destination ≡ source
     frame-source = good-source most frame destination frame-number ∙ source-frame
 
--- A written frame, taken from the output's front and read at its destination, gives the packet, the sender and the number 0.
-module _ (most : ℕ) (out packet : List ℕ) (destination source : ℕ) (f : Fits most (length out) (length packet) destination source) where
+-- A written frame, taken from the output's front and read at its destination, gives the packet, the sender and the
+-- number 0.
+module _ (most : ℕ) (out packet : List ℕ) (destination source : ℕ)
+    (f : Fits most (length out) (length packet) destination source) where
   abbrev written : List ℕ
   written = take (frameSize (length packet)) (outputOf most out packet destination source)
 
   pub written-frame : written ≡ frameOf destination source packet
   unfolding fronted
   written-frame =
-      ap (take (5 + length packet)) (output-written most out packet destination source (of-fits most (length out) (length packet) destination source f))
+      ap (take (5 + length packet)) (output-written most out packet destination source
+      (of-fits most (length out) (length packet) destination source f))
       ∙ take-at (frameOf destination source packet) _ (5 + length packet) (frame-length destination source packet)
 
   pub back-number : refusalOf most written destination ≡ 0
@@ -82,5 +88,6 @@ module _ (most : ℕ) (out packet : List ℕ) (destination source : ℕ) (f : Fi
       ap (λ (s : List ℕ). sourceAddressOf most s destination) written-frame
       ∙ frame-source most destination source packet (f .least) (f .largest) (f .to) (f .short) (f .long)
 
-  pub round-trip : (refusalOf most written destination ≡ 0) × (packetOf most written destination ≡ packet) × (sourceAddressOf most written destination ≡ source)
+  pub round-trip : (refusalOf most written destination ≡ 0) × (packetOf most written destination ≡ packet)
+      × (sourceAddressOf most written destination ≡ source)
   round-trip = (back-number, back-packet, back-source)

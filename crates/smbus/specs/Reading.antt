@@ -1,4 +1,5 @@
--- What reading a frame at an own address gives (document 01, "SMBus frame"). `most` is the largest body; the base takes 64.
+-- What reading a frame at an own address gives (document 01, "SMBus frame"). `most` is the largest body; the base takes
+-- 64.
 -- Assumes nothing.
 use mathlib.Core.Path.{_≡_}
 use mathlib.Core.Bool.{not}
@@ -17,8 +18,8 @@ endOf frame = getD frame (length frame - 1) 0
 unfoldable pub beforeEnd : List ℕ → List ℕ
 beforeEnd frame = take (length frame - 1) frame
 
--- "Check order, reading: 1 (own address over 127), 3 (frame not 10 to 73 bytes), 4 (bit 0 set, or not ours), 5 (byte 1),
--- 6 (count + 4 not the frame's length), 7 (bit 0 of byte 3 clear), 8." A largest body that is none is 1.
+-- "Check order, reading: 1 (own address over 127), 3 (frame not 10 to 73 bytes), 4 (bit 0 set, or not ours), 5 (byte
+-- 1), 6 (count + 4 not the frame's length), 7 (bit 0 of byte 3 clear), 8." A largest body that is none is 1.
 unfoldable pub refusalOf : ℕ → List ℕ → ℕ → ℕ
 refusalOf most frame own =
     pick (not (mostRight most)) 1

@@ -14,8 +14,9 @@ use Rattle.smbus.specs.Frame.{frameOf}
 abbrev pub frameSize : ℕ → ℕ
 frameSize size = 5 + size
 
--- "Writing: 1 (either address over 127), 3 (packet size), 2 (output shorter than the frame)." A largest body that is none is 1.
--- "All three writers look at a packet's size only, not at its fields": `size` is all of the packet that is asked for, `room` all of the output.
+-- "Writing: 1 (either address over 127), 3 (packet size), 2 (output shorter than the frame)." A largest body that is
+-- none is 1. "All three writers look at a packet's size only, not at its fields": `size` is all of the packet that is
+-- asked for, `room` all of the output.
 unfoldable pub writeRefusal : ℕ → ℕ → ℕ → ℕ → ℕ → ℕ
 writeRefusal most room size destination source =
     pick (not (mostRight most)) 1
@@ -28,7 +29,8 @@ writeRefusal most room size destination source =
 -- "The frame goes to the output's front, the rest unchanged."
 unfoldable pub outputOf : ℕ → List ℕ → List ℕ → ℕ → ℕ → List ℕ
 outputOf most out packet destination source =
-    pick (eqb (writeRefusal most (length out) (length packet) destination source) 0) (fronted out (frameOf destination source packet)) out
+    pick (eqb (writeRefusal most (length out) (length packet) destination source) 0)
+    (fronted out (frameOf destination source packet)) out
 
 -- What is known of a packet that may be written, a line for each check.
 pub record Fits (most room size destination source : ℕ) : Type 0 where

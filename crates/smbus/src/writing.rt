@@ -12,15 +12,18 @@ ghost use Rattle.smbus.specs.Answers.{saysWritten, writtenOf};
 
 // The frame at the front of the output, the rest unchanged; nothing is written where the answer is a refusal.
 pub fn write(out: &mut [u8], packet: &[u8], destination: u8, source: u8) -> Written
-    ensures answer { λ r. ⌜ saysWritten r ≡ writtenOf 64 (length (now (out .entry))) (length (now (packet .entry))) destination source ⌝ }
+    ensures answer { λ r. ⌜ saysWritten r ≡ writtenOf 64 (length (now (out .entry)))
+        (length (now (packet .entry))) destination source ⌝ }
     ensures output { λ _. ⌜ now (out .exit) ≡ outputOf 64 (now (out .entry)) (now (packet .entry)) destination source ⌝ }
 {
     write_within(mctp::LARGEST_BODY, out, packet, destination, source)
 }
 
 fn write_within(most: usize, out: &mut [u8], packet: &[u8], destination: u8, source: u8) -> Written
-    ensures answer { λ r. ⌜ saysWritten r ≡ writtenOf most (length (now (out .entry))) (length (now (packet .entry))) destination source ⌝ }
-    ensures output { λ _. ⌜ now (out .exit) ≡ outputOf most (now (out .entry)) (now (packet .entry)) destination source ⌝ }
+    ensures answer { λ r. ⌜ saysWritten r ≡ writtenOf most (length (now (out .entry)))
+        (length (now (packet .entry))) destination source ⌝ }
+    ensures output { λ _. ⌜ now (out .exit) ≡ outputOf most (now (out .entry))
+        (now (packet .entry)) destination source ⌝ }
 {
     let answer = answer_for(most, out.len(), packet.len(), destination, source);
     match answer {
@@ -56,7 +59,8 @@ fn answer_for(most: usize, room: usize, size: usize, destination: u8, source: u8
 
 // The head, the packet, and the PEC of both.
 fn fill(out: &mut [u8], packet: &[u8], destination: u8, source: u8)
-    requires { ⌜ (destination ≤ 127) × (source ≤ 127) × (length (now packet) ≤ 250) × (5 + length (now packet) ≤ length (now out)) ⌝ }
+    requires { ⌜ (destination ≤ 127) × (source ≤ 127) × (length (now packet) ≤ 250)
+        × (5 + length (now packet) ≤ length (now out)) ⌝ }
     ensures { λ _. ⌜ now (out .exit) ≡ fronted (now (out .entry)) (frameOf destination source (now (packet .entry))) ⌝ }
 {
     out[0] = destination * 2;

@@ -15,7 +15,8 @@ use Rattle.records.proofs.Walks.{records-split, records-passed, joined-append}
 use Rattle.transcript.specs.declared.state.State.{State}
 use Rattle.transcript.specs.declared.taking.Taken.{Taken}
 use Rattle.transcript.specs.Frame.{start}
-use Rattle.transcript.specs.Transcript.{Ran, behindText, run, runOn, transcriptOf, packetsIn, Part, partOf, Left, left, chunkOf}
+use Rattle.transcript.specs.Transcript.{Ran, behindText, run, runOn, transcriptOf, packetsIn, Part, partOf, Left}
+use Rattle.transcript.specs.Transcript.{left, chunkOf}
 use Rattle.transcript.proofs.Parts.{part-more}
 use Rattle.transcript.proofs.Runs.{run-append, run-arrivals, run-packets, Took, took}
 

@@ -1,4 +1,5 @@
--- The contracts leave no choice: two results that one allows on the same bytes are equal, and so is every lent byte at exit.
+-- The contracts leave no choice: two results that one allows on the same bytes are equal, and so is every lent byte at
+-- exit.
 -- Assumes nothing.
 use mathlib.Core.Path.{_≡_, ap}
 use contract.Lifetimes.{Lfts}
@@ -15,20 +16,28 @@ use Rattle.transcript.proofs.taking.chunk.Reads as chunk
 use Rattle.transcript.proofs.front.to_front.Reads as to-front
 use Rattle.transcript.proofs.last.last_line.Reads as last-line
 
-pub set-up-determined : (κs : Lfts 0) (a : _) (r q : State) (e f : _) → set-up.Post κs a r e → set-up.Post κs a q f → r ≡ q
+pub set-up-determined : (κs : Lfts 0) (a : _) (r q : State) (e f : _) → set-up.Post κs a r e → set-up.Post κs a q f
+    → r ≡ q
 set-up-determined κs a r q e f p o = determined p o
 
-pub frame-line-determined : (κs : Lfts 3) (a : _) (r q : Framed) (e f : _) → frame-line.Post κs a r e → frame-line.Post κs a q f
+pub frame-line-determined : (κs : Lfts 3) (a : _) (r q : Framed) (e f : _) → frame-line.Post κs a r e
+    → frame-line.Post κs a q f
     → (r ≡ q) × (e .1 .0 .now ≡ f .1 .0 .now) × (e .1 .1 .1 .0 .now ≡ f .1 .1 .1 .0 .now)
 frame-line-determined κs a r q e f p o =
-    let same = determined p o in
-    (ap (λ (l : frame.Left). record { state = l .state; behind = l .behind }) same, ap (λ (l : frame.Left). l .memory) same, ap (λ (l : frame.Left). l .output) same)
+    let same = determined p o in (
+      ap (λ (l : frame.Left). record { state = l .state; behind = l .behind }) same,
+      ap (λ (l : frame.Left). l .memory) same,
+      ap (λ (l : frame.Left). l .output) same,
+    )
 
 pub chunk-determined : (κs : Lfts 3) (a : _) (r q : Taken) (e f : _) → chunk.Post κs a r e → chunk.Post κs a q f
     → (r ≡ q) × (e .1 .0 .now ≡ f .1 .0 .now) × (e .1 .1 .1 .0 .now ≡ f .1 .1 .1 .0 .now)
 chunk-determined κs a r q e f p o =
-    let same = determined p o in
-    (ap (λ (l : transcript.Left). record { state = l .state; read = l .read; written = l .written }) same, ap (λ (l : transcript.Left). l .memory) same, ap (λ (l : transcript.Left). l .output) same)
+    let same = determined p o in (
+      ap (λ (l : transcript.Left). record { state = l .state; read = l .read; written = l .written }) same,
+      ap (λ (l : transcript.Left). l .memory) same,
+      ap (λ (l : transcript.Left). l .output) same,
+    )
 
 pub to-front-determined : (κs : Lfts 1) (a : _) (r q : ℕ) (e f : _) → to-front.Post κs a r e → to-front.Post κs a q f
     → (r ≡ q) × (e .0 .now ≡ f .0 .now)

@@ -25,7 +25,8 @@ module _ (s : List ℕ) (from end : ℕ) where
   unfolding between
   between-is h k =
       let all : from + (end - from) ≡ end = omega arith in
-      sym (drop-at (take from s) (take (end - from) (drop from s)) from (length-take-le from s k)) ∙ ap (drop from) (sym (take-add from (end - from) s) ∙ ap (λ (n : ℕ). take n s) all)
+      sym (drop-at (take from s) (take (end - from) (drop from s)) from (length-take-le from s k))
+      ∙ ap (drop from) (sym (take-add from (end - from) s) ∙ ap (λ (n : ℕ). take n s) all)
 
   -- where nothing stands there, nothing moves
   pub moved-none : min end (length s) ≤ from → (0 ≡ length (between s from end)) × (s ≡ movedOf s from end)
@@ -41,7 +42,8 @@ module _ (s : List ℕ) (from end : ℕ) where
 
   -- a turn
   pub moved-turn : (i : ℕ) → i < min end (length s) - from
-      → set (laid s 0 (take i (between s from end))) i (getD (laid s 0 (take i (between s from end))) (from + i) 0) ≡ laid s 0 (take (suc i) (between s from end))
+      → set (laid s 0 (take i (between s from end))) i (getD (laid s 0 (take i (between s from end))) (from + i) 0)
+      ≡ laid s 0 (take (suc i) (between s from end))
   unfolding between
   moved-turn i h =
       let size = between-size in
@@ -49,10 +51,12 @@ module _ (s : List ℕ) (from end : ℕ) where
       let here : getD (laid s 0 (take i (between s from end))) (from + i) 0 ≡ getD (between s from end) i 0 =
       laid-behind s 0 (take i (between s from end)) (from + i) (omega arith)
       ∙ sym (getD-take (end - from) (drop from s) i 0 (omega arith) ∙ getD-drop from s i 0) in
-      rw here (ap (λ (k : ℕ). set (laid s 0 (take i (between s from end))) k (getD (between s from end) i 0)) (sym (zero-add i)) ∙ laid-turn s 0 (between s from end) i (omega arith))
+      rw here (ap (λ (k : ℕ). set (laid s 0 (take i (between s from end))) k (getD (between s from end) i 0))
+      (sym (zero-add i)) ∙ laid-turn s 0 (between s from end) i (omega arith))
 
   -- what was moved stands at the front
   pub moved-front : take (length (between s from end)) (movedOf s from end) ≡ between s from end
   unfolding movedOf fronted
   moved-front =
-      rw (laid-front s (between s from end) (omega (arith, between-size))) (take-append-seam (between s from end) (drop (length (between s from end)) s))
+      rw (laid-front s (between s from end) (omega (arith, between-size)))
+      (take-append-seam (between s from end) (drop (length (between s from end)) s))

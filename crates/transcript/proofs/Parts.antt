@@ -36,7 +36,9 @@ module _ (s : State) (m : List ℕ) where
   part-full room (f ∷ frames) h = rw (lt-leb 86 room h)
 
   pub part-more : (room : ℕ) (f : List ℕ) (frames : List (List ℕ)) → 86 ≤ room
-      → partOf room s m (f ∷ frames) ≡ frameFirst f (frameOf s m f) (partOf (room - length (frameOf s m f .line)) (frameOf s m f .state) (frameOf s m f .memory) frames)
+      → partOf room s m (f ∷ frames)
+      ≡ frameFirst f (frameOf s m f)
+      (partOf (room - length (frameOf s m f .line)) (frameOf s m f .state) (frameOf s m f .memory) frames)
   unfolding partOf
   part-more room f frames h = rw (le-leb 86 room h)
 
@@ -58,12 +60,20 @@ onward-done input s m out at behind e = ap (goneOn at behind out) e ∙ rw (add-
 
 -- a frame in front: its line laid, its record read
 gone-more : (at behind : ℕ) (out f : List ℕ) (a : After) (p : Part)
-    → goneOn at behind out (frameFirst f a p) ≡ goneOn (at + suc (length f)) (behind + length (a .line)) (laid out behind (a .line)) p
+    → goneOn at behind out (frameFirst f a p)
+    ≡ goneOn (at + suc (length f)) (behind + length (a .line)) (laid out behind (a .line)) p
 gone-more at behind out f a p =
     let output = laid-append out behind (a .line) (p .ran .text) in
     let read : at + (suc (length f) + p .read) ≡ at + suc (length f) + p .read = omega arith in
-    let written : behind + length (a .line ++ p .ran .text) ≡ behind + length (a .line) + length (p .ran .text) = rw length-append (omega arith) in
-    λ i. record { state = p .ran .state; memory = p .ran .memory; output = output i; read = read i; written = written i }
+    let written : behind + length (a .line ++ p .ran .text) ≡ behind + length (a .line) + length (p .ran .text) =
+    rw length-append (omega arith) in
+    λ i. record {
+      state = p .ran .state;
+      memory = p .ran .memory;
+      output = output i;
+      read = read i;
+      written = written i;
+    }
 
 -- a turn: one record more
 module _ (input : List ℕ) (s : State) (m out : List ℕ) (at behind start size : ℕ)
@@ -81,7 +91,12 @@ module _ (input : List ℕ) (s : State) (m out : List ℕ) (at behind start size
   unfolding one
   fits = omega (arith, line-fits s m taken)
 
-  came : lined one out behind ≡ record { state = one .state; memory = one .memory; output = laid out behind (one .line); behind = behind + length (one .line) }
+  came : lined one out behind ≡ record {
+    state = one .state;
+    memory = one .memory;
+    output = laid out behind (one .line);
+    behind = behind + length (one .line);
+  }
   came = rw (put-is out behind (one .line) fits, after-is out behind (one .line) fits)
 
   read-on : at + (suc (length taken)) ≡ start + size
@@ -90,23 +105,31 @@ module _ (input : List ℕ) (s : State) (m out : List ℕ) (at behind start size
       let n = length-take-le size (drop start input) (rw length-drop (omega (arith, stands .ends))) in
       omega (arith, stands .follows)
 
-  room-on : length out - behind - length (one .line) ≡ length (laid out behind (one .line)) - (behind + length (one .line))
+  room-on : length out - behind - length (one .line)
+      ≡ length (laid out behind (one .line)) - (behind + length (one .line))
   room-on = omega (arith, laid-length out behind (one .line))
 
   rest : List (List ℕ)
   rest = recordsOf (drop (start + size) input)
 
-  turn : onward input s m out at behind ≡ onward input (one .state) (one .memory) (laid out behind (one .line)) (start + size) (behind + length (one .line))
+  turn : onward input s m out at behind
+      ≡ onward input (one .state) (one .memory) (laid out behind (one .line)) (start + size)
+      (behind + length (one .line))
   unfolding taken one rest
   turn =
-      ap (λ (l : List (List ℕ)). goneOn at behind out (partOf (length out - behind) s m l)) (walk-at-whole input at start size whole)
+      ap (λ (l : List (List ℕ)). goneOn at behind out (partOf (length out - behind) s m l))
+      (walk-at-whole input at start size whole)
       ∙ ap (goneOn at behind out) (part-more s m (length out - behind) taken rest room)
-      ∙ gone-more at behind out taken one (partOf (length out - behind - length (one .line)) (one .state) (one .memory) rest)
-      ∙ (λ i. goneOn (read-on i) (behind + length (one .line)) (laid out behind (one .line)) (partOf (room-on i) (one .state) (one .memory) rest))
+      ∙ gone-more at behind out taken one
+      (partOf (length out - behind - length (one .line)) (one .state) (one .memory) rest)
+      ∙ (λ i. goneOn (read-on i) (behind + length (one .line)) (laid out behind (one .line))
+      (partOf (room-on i) (one .state) (one .memory) rest))
 
   -- as the call that takes the frame leaves it
   pub gone-on : {l : frame.Left} → l ≡ lined (frameOf s m (take (start + size - start) (drop start input))) out behind
-      → (l .behind ≤ length (l .output)) × (length (l .output) ≡ length out) × (onward input (l .state) (l .memory) (l .output) (start + size) (l .behind) ≡ onward input s m out at behind)
+      → (l .behind ≤ length (l .output)) × (length (l .output) ≡ length out)
+      × (onward input (l .state) (l .memory) (l .output) (start + size) (l .behind)
+      ≡ onward input s m out at behind)
   unfolding taken one
   gone-on {l} is =
       let e : start + size - start ≡ size = omega arith in

@@ -1,4 +1,5 @@
--- Runs of frames: one after the other, the two counts, and the part that a chunk takes, which is a run of the first frames.
+-- Runs of frames: one after the other, the two counts, and the part that a chunk takes, which is a run of the first
+-- frames.
 -- Assumes nothing.
 use mathlib.Core.Path.{_≡_, refl, ap, sym, _∙_}
 use mathlib.Core.Bool.{Bool, true, false}
@@ -48,7 +49,8 @@ more-is : (n : ℕ) → n < 18446744073709551615 → oneMore n ≡ n + 1
 unfolding oneMore
 more-is n h = rw (lt-ltb n 18446744073709551615 h)
 
-pub run-arrivals : (s : State) (m : List ℕ) (frames : List (List ℕ)) → s .arrivals + length frames ≤ 18446744073709551615
+pub run-arrivals : (s : State) (m : List ℕ) (frames : List (List ℕ))
+    → s .arrivals + length frames ≤ 18446744073709551615
     → run s m frames .state .arrivals ≡ s .arrivals + length frames
 unfolding run frameOf
 run-arrivals s m [] h = omega arith
@@ -57,8 +59,10 @@ run-arrivals s m (f ∷ frames) h =
     run-arrivals (frameOf s m f .state) (frameOf s m f .memory) frames (omega arith) ∙ omega arith
 
 -- "Packets counts arrivals in which a packet was found": of one frame
-found : (s : State) (m p : List ℕ) (known : Known) (why : carrier.Without) (good : Bool) → s .packets < 18446744073709551615
-    → withPacket (arrivedOf 64 (s .receiver) m (pick good (carrier.packet p known) (carrier.none why)) .told) (s .packets) ≡ s .packets + pick good 1 0
+found : (s : State) (m p : List ℕ) (known : Known) (why : carrier.Without) (good : Bool)
+    → s .packets < 18446744073709551615
+    → withPacket (arrivedOf 64 (s .receiver) m (pick good (carrier.packet p known) (carrier.none why)) .told)
+    (s .packets) ≡ s .packets + pick good 1 0
 found s m p known why true h = more-is (s .packets) h
 found s m p known why false h = omega arith
 
@@ -86,10 +90,18 @@ pub record Took (room : ℕ) (s : State) (m : List ℕ) (frames : List (List ℕ
   pub read : partOf room s m frames .read ≡ length (joined taken)
   pub fits : length (partOf room s m frames .ran .text) ≤ room
 
-took-none : (room : ℕ) (s : State) (m : List ℕ) (frames : List (List ℕ)) → partOf room s m frames ≡ noFrame s m → Took room s m frames
+took-none : (room : ℕ) (s : State) (m : List ℕ) (frames : List (List ℕ)) → partOf room s m frames ≡ noFrame s m
+    → Took room s m frames
 unfolding run joined
 took-none room s m frames e =
-    record { taken = []; rest = frames; split = refl; ran = ap (λ (p : Part). p .ran) e; read = ap (λ (p : Part). p .read) e; fits = rw e (omega arith) }
+    record {
+      taken = [];
+      rest = frames;
+      split = refl;
+      ran = ap (λ (p : Part). p .ran) e;
+      read = ap (λ (p : Part). p .read) e;
+      fits = rw e (omega arith);
+    }
 
 pub took : (room : ℕ) (s : State) (m : List ℕ) (frames : List (List ℕ)) → Took room s m frames
 unfolding run joined

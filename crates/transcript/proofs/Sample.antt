@@ -28,37 +28,55 @@ use Rattle.transcript.specs.Frame.{start, oneMore, After, after, frameOf
 use Rattle.transcript.specs.Transcript.{run, transcriptOf}
 
 -- "`40 0F 06 23 01 09 0A C8 00 71` is a good frame for address 0x20: done at EID 9, length 1"
-found : smbusCarries 64 (0x40 ∷ 0x0F ∷ 0x06 ∷ 0x23 ∷ 0x01 ∷ 0x09 ∷ 0x0A ∷ 0xC8 ∷ 0x00 ∷ 0x71 ∷ []) 0x20 ≡ packet (0x01 ∷ 0x09 ∷ 0x0A ∷ 0xC8 ∷ 0x00 ∷ []) (Source 17)
-unfolding smbusCarries smbus.refusalOf smbus.endOf smbus.beforeEnd smbus.partOf smbus.packetOf smbus.sourceAddressOf pec.polyStep pec.eightSteps pec.byteStep pec.pecFrom pec.pecOf
+found : smbusCarries 64 (0x40 ∷ 0x0F ∷ 0x06 ∷ 0x23 ∷ 0x01 ∷ 0x09 ∷ 0x0A ∷ 0xC8 ∷ 0x00 ∷ 0x71 ∷ []) 0x20
+    ≡ packet (0x01 ∷ 0x09 ∷ 0x0A ∷ 0xC8 ∷ 0x00 ∷ []) (Source 17)
+unfolding smbusCarries smbus.refusalOf smbus.endOf smbus.beforeEnd smbus.partOf smbus.packetOf smbus.sourceAddressOf
+    pec.polyStep pec.eightSteps pec.byteStep pec.pecFrom pec.pecOf
 found = refl
 
 short : smbusCarries 64 (0x00 ∷ []) 0x20 ≡ none (refused 3)
 unfolding smbusCarries smbus.refusalOf
 short = refl
 
-done : decided 64 (fresh (record { own = record { 0 = 9 } })) 4096 (0x01 ∷ 0x09 ∷ 0x0A ∷ 0xC8 ∷ 0x00 ∷ []) ≡ rules.put 0 0 false Free
-unfolding decided fromPacket fromSource checks.setupRefusal checks.packetRefusal checks.sourceRefusal rules.ruled rules.onStart rules.after key.keyOf key.headerOf key.sameKey slots.firstOf slots.slotOf slots.lowestFree state.rightState state.rightSlot state.clash
+done : decided 64 (fresh (record { own = record { 0 = 9 } })) 4096 (0x01 ∷ 0x09 ∷ 0x0A ∷ 0xC8 ∷ 0x00 ∷ [])
+    ≡ rules.put 0 0 false Free
+unfolding decided fromPacket fromSource checks.setupRefusal checks.packetRefusal checks.sourceRefusal rules.ruled
+    rules.onStart rules.after key.keyOf key.headerOf key.sameKey slots.firstOf slots.slotOf slots.lowestFree
+    state.rightState state.rightSlot state.clash
 done = refl
 
 -- what the two frames leave, in any memory of the right size
 module _ (m : List ℕ) (sized : length m ≡ 4096) where
   first : After
-  first = record { state = record { receiver = start .receiver; arrivals = 1; packets = 1 }; memory = laid m 0 (0x00 ∷ []); line = lineBytes 1 (Done 0 1 false) }
+  first =
+      record {
+        state = record { receiver = start .receiver; arrivals = 1; packets = 1 };
+        memory = laid m 0 (0x00 ∷ []);
+        line = lineBytes 1 (Done 0 1 false);
+      }
 
   one : frameOf start m (0x40 ∷ 0x0F ∷ 0x06 ∷ 0x23 ∷ 0x01 ∷ 0x09 ∷ 0x0A ∷ 0xC8 ∷ 0x00 ∷ 0x71 ∷ []) ≡ first
   unfolding frameOf stepOf oneMore first
   one = rw (found, sized, done)
 
-  two : (s : State) (n : List ℕ) → frameOf s n (0x00 ∷ []) ≡ record { state = record { receiver = s .receiver; arrivals = oneMore (s .arrivals); packets = s .packets }; memory = n; line = lineBytes (oneMore (s .arrivals)) (Refused 3) }
+  two : (s : State) (n : List ℕ)
+      → frameOf s n (0x00 ∷ []) ≡ record {
+        state = record { receiver = s .receiver; arrivals = oneMore (s .arrivals); packets = s .packets };
+        memory = n;
+        line = lineBytes (oneMore (s .arrivals)) (Refused 3);
+      }
   unfolding frameOf
   two s n = rw short
 
-  pub sample : transcriptOf m (0x0A ∷ 0x40 ∷ 0x0F ∷ 0x06 ∷ 0x23 ∷ 0x01 ∷ 0x09 ∷ 0x0A ∷ 0xC8 ∷ 0x00 ∷ 0x71 ∷ 0x01 ∷ 0x00 ∷ [])
+  pub sample : transcriptOf m (0x0A ∷ 0x40 ∷ 0x0F ∷ 0x06 ∷ 0x23 ∷ 0x01 ∷ 0x09 ∷ 0x0A ∷ 0xC8 ∷ 0x00 ∷ 0x71 ∷ 0x01 ∷ 0x00
+      ∷ [])
       -- `1 done slot 0 length 1`
-      ≡ (49 ∷ 32 ∷ 100 ∷ 111 ∷ 110 ∷ 101 ∷ 32 ∷ 115 ∷ 108 ∷ 111 ∷ 116 ∷ 32 ∷ 48 ∷ 32 ∷ 108 ∷ 101 ∷ 110 ∷ 103 ∷ 116 ∷ 104 ∷ 32 ∷ 49 ∷ 10 ∷ [])
+      ≡ (49 ∷ 32 ∷ 100 ∷ 111 ∷ 110 ∷ 101 ∷ 32 ∷ 115 ∷ 108 ∷ 111 ∷ 116 ∷ 32 ∷ 48 ∷ 32 ∷ 108 ∷ 101 ∷ 110 ∷ 103 ∷ 116
+      ∷ 104 ∷ 32 ∷ 49 ∷ 10 ∷ [])
       -- `2 refused 3`
       ++ (50 ∷ 32 ∷ 114 ∷ 101 ∷ 102 ∷ 117 ∷ 115 ∷ 101 ∷ 100 ∷ 32 ∷ 51 ∷ 10 ∷ [])
       -- `arrivals 2 packets 1`
-      ++ (97 ∷ 114 ∷ 114 ∷ 105 ∷ 118 ∷ 97 ∷ 108 ∷ 115 ∷ 32 ∷ 50 ∷ 32 ∷ 112 ∷ 97 ∷ 99 ∷ 107 ∷ 101 ∷ 116 ∷ 115 ∷ 32 ∷ 49 ∷ 10 ∷ [])
+      ++ (97 ∷ 114 ∷ 114 ∷ 105 ∷ 118 ∷ 97 ∷ 108 ∷ 115 ∷ 32 ∷ 50 ∷ 32 ∷ 112 ∷ 97 ∷ 99 ∷ 107 ∷ 101 ∷ 116 ∷ 115 ∷ 32 ∷ 49
+      ∷ 10 ∷ [])
   unfolding transcriptOf run oneMore first digits decimal named pair lineBytes lastLine
   sample = rw (records .sample, one, two)

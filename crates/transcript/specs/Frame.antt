@@ -27,7 +27,8 @@ lineOfSaid (rules.refused number) = Refused number
 lineOfSaid (rules.held slot bytes again) = Held slot bytes again
 lineOfSaid (rules.done slot length again) = Done slot length again
 
--- an arrival without a packet, as a line. No frame is EMPTY or skipped (that is the ring's): those rows only make it total.
+-- an arrival without a packet, as a line. No frame is EMPTY or skipped (that is the ring's): those rows only make it
+-- total.
 abbrev pub lineWithout : carrier.Without → Line
 lineWithout carrier.empty = Refused 0
 lineWithout (carrier.skipped number next) = Refused number
@@ -56,7 +57,12 @@ pub record After : Type 0 where
 abbrev pub after : State → Arrived → After
 after s a =
     record {
-      state = record { receiver = a .receiver; arrivals = oneMore (s .arrivals); packets = withPacket (a .told) (s .packets) };
+      state =
+          record {
+            receiver = a .receiver;
+            arrivals = oneMore (s .arrivals);
+            packets = withPacket (a .told) (s .packets);
+          };
       memory = a .memory;
       line = lineBytes (oneMore (s .arrivals)) (lineOf (a .told));
     }
@@ -76,4 +82,5 @@ abbrev pub left : Framed → List ℕ → List ℕ → Left
 left f m out = record { state = f .state; memory = m; output = out; behind = f .behind }
 
 abbrev pub lined : After → List ℕ → ℕ → Left
-lined a out at = record { state = a .state; memory = a .memory; output = put out at (a .line); behind = placeAfter out at (a .line) }
+lined a out at =
+    record { state = a .state; memory = a .memory; output = put out at (a .line); behind = placeAfter out at (a .line) }

@@ -1,4 +1,5 @@
--- The transcript of an input: its frames in order, the lines that they give, and a part of them that a call takes at once.
+-- The transcript of an input: its frames in order, the lines that they give, and a part of them that a call takes at
+-- once.
 -- Assumes nothing.
 use Prim.Native.Nat.{ℕ, _+_, _-_}
 use mathlib.Core.List.{List, [], _∷_, _++_}

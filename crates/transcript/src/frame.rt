@@ -19,7 +19,8 @@ pub fn frame_line(
     output: &mut [u8],
     at: usize,
 ) -> Framed
-    ensures { λ r. ⌜ left r (now (memory .exit)) (now (output .exit)) ≡ lined (frameOf before (now (memory .entry)) (now (frame .entry))) (now (output .entry)) at ⌝ }
+    ensures { λ r. ⌜ left r (now (memory .exit)) (now (output .exit))
+        ≡ lined (frameOf before (now (memory .entry)) (now (frame .entry))) (now (output .entry)) at ⌝ }
 {
     let receiver = before.receiver;
     let outcome = rack::from_smbus(frame, state::ADDRESS, receiver, memory);

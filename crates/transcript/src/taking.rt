@@ -12,7 +12,8 @@ pub struct Taken {
 }
 
 pub fn chunk(before: State, memory: &mut [u8], input: &[u8], output: &mut [u8]) -> Taken
-    ensures { λ r. ⌜ left r (now (memory .exit)) (now (output .exit)) ≡ chunkOf before (now (memory .entry)) (now (input .entry)) (now (output .entry)) ⌝ }
+    ensures { λ r. ⌜ left r (now (memory .exit)) (now (output .exit))
+        ≡ chunkOf before (now (memory .entry)) (now (input .entry)) (now (output .entry)) ⌝ }
 {
     let mut state = before;
     let mut read = 0;

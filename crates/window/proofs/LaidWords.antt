@@ -20,7 +20,8 @@ word-length lowFirst n = refl
 word-length highFirst n = refl
 
 -- a word that is laid reads back
-pub laid-word : (o : Order) (s : List ℕ) (at n : ℕ) → at + 4 ≤ length s → n < 2 ^ 32 → wordAt o (laid s at (wordBytes o n)) at ≡ n
+pub laid-word : (o : Order) (s : List ℕ) (at n : ℕ) → at + 4 ≤ length s → n < 2 ^ 32
+    → wordAt o (laid s at (wordBytes o n)) at ≡ n
 laid-word o s at n h k =
     let bytes = wordBytes o n in
     let rest = drop (at + length bytes) s in
@@ -32,11 +33,13 @@ laid-word o s at n h k =
     ∙ word-back o n rest k
 
 -- a part that lies before or after what is laid stays
-pub laid-beside : (s : List ℕ) (at : ℕ) (new : List ℕ) (from n : ℕ) → (at + length new ≤ from) ⊎ (from + n ≤ at) → take n (drop from (laid s at new)) ≡ take n (drop from s)
+pub laid-beside : (s : List ℕ) (at : ℕ) (new : List ℕ) (from n : ℕ) → (at + length new ≤ from) ⊎ (from + n ≤ at)
+    → take n (drop from (laid s at new)) ≡ take n (drop from s)
 unfolding laid
 laid-beside s at [] from n h = refl
 laid-beside s at (b ∷ new) from n (inl h) =
-    laid-beside (set s at b) (suc at) new from n (inl (omega arith)) ∙ ap (take n) (drop-set-lt from s at b (omega arith))
+    laid-beside (set s at b) (suc at) new from n (inl (omega arith))
+    ∙ ap (take n) (drop-set-lt from s at b (omega arith))
 laid-beside s at (b ∷ new) from n (inr h) =
     let k = at - from in
     let place : at ≡ from + k = omega arith in
@@ -52,11 +55,14 @@ byte s at k h = getD-take 4 (drop at s) k 0 h ∙ getD-drop at s k 0
 word-cut : (o : Order) (s : List ℕ) (at : ℕ) → wordAt o (take 4 (drop at s)) 0 ≡ wordAt o s at
 unfolding wordAt
 word-cut o s at =
-    let zero : getD (take 4 (drop at s)) 0 0 ≡ getD s at 0 = byte s at 0 (lit< tt) ∙ ap (λ (k : ℕ). getD s k 0) (add-zero at) in
+    let zero : getD (take 4 (drop at s)) 0 0 ≡ getD s at 0 = byte s at 0 (lit< tt)
+    ∙ ap (λ (k : ℕ). getD s k 0) (add-zero at) in
     rw (zero, byte s at 1 (lit< tt), byte s at 2 (lit< tt), byte s at 3 (lit< tt))
 
 -- a word that lies before or after what is laid stays
-pub laid-word-beside : (o : Order) (s : List ℕ) (at : ℕ) (new : List ℕ) (other : ℕ) → (at + length new ≤ other) ⊎ (other + 4 ≤ at)
+pub laid-word-beside : (o : Order) (s : List ℕ) (at : ℕ) (new : List ℕ) (other : ℕ)
+    → (at + length new ≤ other) ⊎ (other + 4 ≤ at)
     → wordAt o (laid s at new) other ≡ wordAt o s other
 laid-word-beside o s at new other h =
-    sym (word-cut o (laid s at new) other) ∙ ap (λ (l : List ℕ). wordAt o l 0) (laid-beside s at new other 4 h) ∙ word-cut o s other
+    sym (word-cut o (laid s at new) other) ∙ ap (λ (l : List ℕ). wordAt o l 0) (laid-beside s at new other 4 h)
+    ∙ word-cut o s other

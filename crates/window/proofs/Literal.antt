@@ -17,7 +17,8 @@ use Rattle.descriptor.proofs.Literal.{descriptorImage, rosImage, windowImage, i
 use Rattle.window.specs.declared.word.Pointer.{Pointer}
 use Rattle.window.specs.declared.word.Pointer.the-variants.{H2bWrite, B2hRead, B2hWrite, H2bRead}
 use Rattle.window.specs.declared.word.Interface.{Interface}
-use Rattle.window.specs.Window.{setupOf, placeIn, partOf, cleared, wordIn, interfaceIn, storeRefusal, stored, storedPointer}
+use Rattle.window.specs.Window.{setupOf, placeIn, partOf, cleared, wordIn, interfaceIn, storeRefusal, stored}
+use Rattle.window.specs.Window.{storedPointer}
 
 -- 1 in a window one byte too short; nothing lies there then
 pub image-setup : map (λ (n : ℕ). setupOf n imageConfiguration) (339 ∷ 340 ∷ []) ≡ 1 ∷ 0 ∷ []
@@ -61,8 +62,10 @@ unfolding interfaceIn wordIn cleared wordOf allowed inside clear ringRight wordA
 image-words = refl
 
 -- H2B_WP moved on to 36: H_UP stays (00 00 00 26)
-pub image-stored : storedPointer windowImage imageConfiguration H2bWrite 36 ≡ descriptorImage ++ (rosImage ++ (0 ∷ 0 ∷ 0 ∷ 38 ∷ 0 ∷ 0 ∷ 0 ∷ 5 ∷ []) ++ replicate 260 0)
-unfolding storedPointer stored storeRefusal wordIn cleared wordOf numberOf allowed inside clear ringRight wordAt wordBytes laid
+pub image-stored : storedPointer windowImage imageConfiguration H2bWrite 36
+    ≡ descriptorImage ++ (rosImage ++ (0 ∷ 0 ∷ 0 ∷ 38 ∷ 0 ∷ 0 ∷ 0 ∷ 5 ∷ []) ++ replicate 260 0)
+unfolding storedPointer stored storeRefusal wordIn cleared wordOf numberOf allowed inside clear ringRight wordAt
+    wordBytes laid
 image-stored = refl
 
 -- The window with other words: of Host_ROS B2H_WP and H2B_RP, of Host_RWS H2B_WP and B2H_RP
@@ -177,5 +180,6 @@ setup-first = refl
 pub reserved-cleared : take 16
     (drop 64 (storedPointer (withWords (low 0) (low 0) (low 0) (low 7)) imageConfiguration B2hRead 8))
     ≡ replicate 15 0 ++ (9 ∷ [])
-unfolding storedPointer stored storeRefusal wordIn cleared wordOf numberOf allowed inside clear ringRight wordAt wordBytes laid
+unfolding storedPointer stored storeRefusal wordIn cleared wordOf numberOf allowed inside clear ringRight wordAt
+    wordBytes laid
 reserved-cleared = refl

@@ -30,12 +30,14 @@ pub place-fits : (window : ℕ) (c : Configuration) (part : Part) → endOf (pla
 unfolding placeIn
 place-fits window c part = fits (allowed window c) refl
   where
-    fits : (b : Bool) → allowed window c ≡ b → endOf (pick b (partPlace c part) (record { offset = 0; length = 0 })) ≤ window
+    fits : (b : Bool) → allowed window c ≡ b
+        → endOf (pick b (partPlace c part) (record { offset = 0; length = 0 })) ≤ window
     fits true e = part-fits window c part (allowed-facts window c e)
     fits false e = omega arith
 
 -- a place cut by its two ends
-pub cut-bytes : (s : List ℕ) {p q : Place} {to : ℕ} → p ≡ q → to ≡ endOf p → take (to - p .offset) (drop (p .offset) s) ≡ bytesAt s q
+pub cut-bytes : (s : List ℕ) {p q : Place} {to : ℕ} → p ≡ q → to ≡ endOf p
+    → take (to - p .offset) (drop (p .offset) s) ≡ bytesAt s q
 cut-bytes s {p} {q} {to} e f =
     let n : to - p .offset ≡ p .length = omega arith in
     rw (n, e)
@@ -45,9 +47,12 @@ take-drop-length : (s : List ℕ) (from n : ℕ) → from + n ≤ length s → l
 take-drop-length s from n h = simp (length-take, length-drop) (omega arith)
 
 -- a part that is cut has the length of its place
-pub part-length : (s : List ℕ) (c : Configuration) (part : Part) → allowed (length s) c ≡ true → length (partOf s c part) ≡ partPlace c part .length
+pub part-length : (s : List ℕ) (c : Configuration) (part : Part) → allowed (length s) c ≡ true
+    → length (partOf s c part) ≡ partPlace c part .length
 unfolding partOf placeIn
-part-length s c part e = rw e (take-drop-length s (partPlace c part .offset) (partPlace c part .length) (part-fits (length s) c part (allowed-facts (length s) c e)))
+part-length s c part e =
+    rw e (take-drop-length s (partPlace c part .offset) (partPlace c part .length)
+    (part-fits (length s) c part (allowed-facts (length s) c e)))
 
 -- what is refused is empty
 pub part-refused : (s : List ℕ) (c : Configuration) (part : Part) → allowed (length s) c ≡ false → partOf s c part ≡ []

@@ -26,7 +26,8 @@ use Rattle.descriptor.specs.declared.configuration.Part.the-variants.{B2h, H2b,
 use Rattle.window.specs.declared.word.Pointer.{Pointer}
 use Rattle.window.specs.declared.word.Pointer.the-variants.{H2bWrite, B2hRead, B2hWrite, H2bRead}
 use Rattle.descriptor.specs.Configuration.{partPlace, isRing, allowed, Clear, Allowed}
-use Rattle.window.specs.Window.{placeIn, bytesAt, partOf, wordPlace, hasUp, cleared, wordIn, pointsInto, storeRefusal, withWord, stored, storedPointer}
+use Rattle.window.specs.Window.{placeIn, bytesAt, partOf, wordPlace, hasUp, cleared, wordIn, pointsInto}
+use Rattle.window.specs.Window.{storeRefusal, withWord, stored, storedPointer}
 use Rattle.descriptor.proofs.Configurations.{allowed-facts}
 use Rattle.window.proofs.Parts.{ring-right}
 use Rattle.window.proofs.LaidWords.{laid-word, laid-beside, laid-word-beside, word-length}
@@ -35,7 +36,8 @@ use Rattle.window.proofs.LaidWords.{laid-word, laid-beside, laid-word-b
 cleared-twice : (p : Pointer) (w : Word) → cleared p (cleared p w) ≡ cleared p w
 unfolding cleared
 cleared-twice p w =
-    let high : (w .high && hasUp p && hasUp p) ≡ (w .high && hasUp p) = and-assoc (w .high) (hasUp p) (hasUp p) ∙ ap (λ (u : Bool). w .high && u) (and-self (hasUp p)) in
+    let high : (w .high && hasUp p && hasUp p) ≡ (w .high && hasUp p) = and-assoc (w .high) (hasUp p) (hasUp p)
+    ∙ ap (λ (u : Bool). w .high && u) (and-self (hasUp p)) in
     λ i. record { pointer = w .pointer; high = high i; low = w .low }
 
 -- each word lies in its structure, and so in the window
@@ -166,7 +168,8 @@ ring-clear window c Ros r a = absurd (false≢true r)
 ring-clear window c Rws r a = absurd (false≢true r)
 
 pub beside : (c : Configuration) (p : Pointer) (ring : Part) → Clear c (partPlace c ring)
-    → (wordPlace c p + 4 ≤ partPlace c ring .offset) ⊎ (partPlace c ring .offset + partPlace c ring .length ≤ wordPlace c p)
+    → (wordPlace c p + 4 ≤ partPlace c ring .offset)
+    ⊎ (partPlace c ring .offset + partPlace c ring .length ≤ wordPlace c p)
 beside c H2bWrite ring k = ⊎-elim (λ (h : _). inr h) (λ (h : _). inl (omega arith)) (k .rws)
 beside c B2hRead ring k = ⊎-elim (λ (h : _). inr (omega arith)) (λ (h : _). inl (omega arith)) (k .rws)
 beside c B2hWrite ring k = ⊎-elim (λ (h : _). inr h) (λ (h : _). inl (omega arith)) (k .ros)

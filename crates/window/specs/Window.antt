@@ -69,7 +69,9 @@ wordIn s c p = cleared p (wordOf (pick (allowed (length s) c) (wordAt highFirst 
 unfoldable pub interfaceIn : List ℕ → Configuration → Interface
 interfaceIn s c =
     record {
-      flags = flagsOf (wordIn s c B2hWrite .high) (wordIn s c B2hWrite .low) (wordIn s c H2bWrite .high) (wordIn s c H2bWrite .low);
+      flags =
+          flagsOf (wordIn s c B2hWrite .high) (wordIn s c B2hWrite .low) (wordIn s c H2bWrite .high)
+          (wordIn s c H2bWrite .low);
       b2h = record { read = wordIn s c B2hRead .pointer; write = wordIn s c B2hWrite .pointer };
       h2b = record { read = wordIn s c H2bRead .pointer; write = wordIn s c H2bWrite .pointer };
       «host_ready» = wordIn s c B2hRead .low;

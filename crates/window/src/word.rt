@@ -69,7 +69,8 @@ fn without_reserved(which: Pointer, word: Word) -> Word
 
 // The word that holds this pointer, where `ok`; else one of zeros.
 fn word_where(window: &[u8], ok: bool, c: Configuration, which: Pointer) -> Word
-    ensures { λ r. ⌜ r ≡ cleared which (wordOf (pick ok (wordAt highFirst (now (window .entry)) (wordPlace c which)) 0)) ⌝ }
+    ensures { λ r. ⌜ r ≡ cleared which (wordOf (pick ok
+        (wordAt highFirst (now (window .entry)) (wordPlace c which)) 0)) ⌝ }
 {
     if !ok {
         return Word {

@@ -1,4 +1,5 @@
--- `pec::pec` meets its contract. The loop's invariant: r is the PEC of the bytes passed. The measure is what is left of the length.
+-- `pec::pec` meets its contract. The loop's invariant: r is the PEC of the bytes passed. The measure is what is left of
+-- the length.
 -- Assumes nothing.
 use mathlib.Core.List.{List}
 use Prim.Native.Nat.{ℕ, _≤_, _<_, _-_}
@@ -43,13 +44,16 @@ module _ (c : tie.After-shared-slice-known2 Inv-loop μ-loop) where
 
   -- The place that the table is read at is a byte.
   place : bitXor r byte < 256
-  place = xor-lt 8 r byte (c .before .before .loop .inv .1) (omega (arith, c .shared-slice-known2 .given (c .before .before .loop .i)))
+  place =
+      xor-lt 8 r byte (c .before .before .loop .inv .1)
+      (omega (arith, c .shared-slice-known2 .given (c .before .before .loop .i)))
 
   -- What stands there is the remainder with one byte more.
   stepped : getD (c .before .before .before .remainders .result) (bitXor r byte) 0 ≡ byteStep r byte
   unfolding byteStep
   stepped =
-      entry (c .before .before .before .remainders .result) (c .before .before .before .remainders .ensures) (bitXor r byte)
+      entry (c .before .before .before .remainders .result) (c .before .before .before .remainders .ensures)
+      (bitXor r byte)
       (omega (arith, place, c .before .before .before .remainders .ok))
 
 cast-r : tie.Need-cast-r Inv-loop μ-loop

@@ -12,36 +12,33 @@ use borrow.Author.Needs.{needs}
 use Rattle.decision.proofs.decision.decide_from_packet.Statement.{statement}
 use Rattle.decision.proofs.decision.decide_from_packet.Tie as tie
 
-packet-check-requires : tie.Need-packet-check-requires
-packet-check-requires c κs = search needs
-
-enum-known-checked : tie.Need-enum-known-checked
-enum-known-checked c = search needs
-
-enum-told : tie.Need-enum-told
-enum-told c = search needs
-
 decide-from-source-requires : tie.Need-decide-from-source-requires
 decide-from-source-requires c κs =
     let a = c .before .before .before .before .args in
-    let good = packet-good (a .most) (a .receiver .setup) (a .packet .now) (sym (c .before .before .packet-check .ensures) ∙ ap outcomeNumber (c .enum-told .given .1)) in
+    let good = packet-good (a .most) (a .receiver .setup) (a .packet .now)
+    (sym (c .before .before .packet-check .ensures) ∙ ap outcomeNumber (c .enum-told .given .1)) in
     omega (arith, within-bounds 5 (4 + a .most) (length (a .packet .now)) (good .size))
 
 returns : tie.Need-returns
 unfolding fromPacket
-returns c = unless-refused (c .before .checked .given .0 .0) _ _ (sym (ap outcomeNumber (c .before .checked .given .1)) ∙ c .before .before .before .packet-check .ensures)
+returns c =
+    unless-refused (c .before .checked .given .0 .0) _ _
+    (sym (ap outcomeNumber (c .before .checked .given .1)) ∙ c .before .before .before .packet-check .ensures)
 
 returns-2 : tie.Need-returns-2
 unfolding fromPacket
-returns-2 c = c .decide-from-source .ensures ∙ sym (unless-good _ _ (sym (c .before .before .before .packet-check .ensures) ∙ ap outcomeNumber (c .before .enum-told .given .1)))
+returns-2 c =
+    c .decide-from-source .ensures
+    ∙ sym (unless-good _ _ (sym (c .before .before .before .packet-check .ensures)
+    ∙ ap outcomeNumber (c .before .enum-told .given .1)))
 
 pub decide-from-packet-spec : {M : Type 1} → statement M
 decide-from-packet-spec =
     tie.close
     (tie.spec
-    packet-check-requires
-    enum-known-checked
-    enum-told
+    (λ c κs. search needs)
+    (λ c. search needs)
+    (λ c. search needs)
     decide-from-source-requires
     returns
     returns-2)

@@ -9,47 +9,33 @@ use borrow.Author.Needs.{needs}
 use Rattle.decision.proofs.decision.decide_from_source.Statement.{statement}
 use Rattle.decision.proofs.decision.decide_from_source.Tie as tie
 
-source-check-requires : tie.Need-source-check-requires
-source-check-requires c κs = search needs
-
-enum-known-checked : tie.Need-enum-known-checked
-enum-known-checked c = search needs
-
-enum-told : tie.Need-enum-told
-enum-told c = search needs
-
-header-of-requires : tie.Need-header-of-requires
-header-of-requires c κs = search needs
-
-sub-rule : tie.Need-sub-rule
-sub-rule c = search needs
-
-cast-rule : tie.Need-cast-rule
-cast-rule c = search needs
-
-rule-requires : tie.Need-rule-requires
-rule-requires c κs = search needs
-
 returns : tie.Need-returns
 unfolding fromSource
-returns c = unless-refused (c .before .checked .given .0 .0) _ _ (sym (ap outcomeNumber (c .before .checked .given .1)) ∙ c .before .before .before .source-check .ensures)
+returns c =
+    unless-refused (c .before .checked .given .0 .0) _ _
+    (sym (ap outcomeNumber (c .before .checked .given .1)) ∙ c .before .before .before .source-check .ensures)
 
 returns-2 : tie.Need-returns-2
 unfolding fromSource
 returns-2 c =
     let p = c .before .before .before .before .before .before .args .packet .now in
-    rw (unless-good _ _ (sym (c .before .before .before .before .source-check .ensures) ∙ ap outcomeNumber (c .before .before .enum-told .given .1)), length-drop 4 p, sym (c .before .header-of .ensures)) (c .rule .ensures)
+    rw (
+      unless-good _ _ (sym (c .before .before .before .before .source-check .ensures)
+          ∙ ap outcomeNumber (c .before .before .enum-told .given .1)),
+      length-drop 4 p,
+      sym (c .before .header-of .ensures),
+    ) (c .rule .ensures)
 
 pub decide-from-source-spec : {M : Type 1} → statement M
 decide-from-source-spec =
     tie.close
     (tie.spec
-    source-check-requires
-    enum-known-checked
-    enum-told
-    header-of-requires
-    sub-rule
-    cast-rule
-    rule-requires
+    (λ c κs. search needs)
+    (λ c. search needs)
+    (λ c. search needs)
+    (λ c κs. search needs)
+    (λ c. search needs)
+    (λ c. search needs)
+    (λ c κs. search needs)
     returns
     returns-2)

@@ -13,9 +13,6 @@ use borrow.Author.Needs.{needs}
 use Rattle.decision.proofs.decision.packet_check.Statement.{statement}
 use Rattle.decision.proofs.decision.packet_check.Tie as tie
 
-add-if1 : tie.Need-add-if1
-add-if1 c = search needs
-
 returns : tie.Need-returns
 unfolding packetRefusal
 returns c =
@@ -23,27 +20,26 @@ returns c =
     let size : packetSize (a .most) (length (a .packet .now)) ≡ false = not-true _ (c .if1 .taken) in
     rw size
 
-header-of-requires : tie.Need-header-of-requires
-header-of-requires c κs = search needs
-
 returns-2 : tie.Need-returns-2
 unfolding packetRefusal headerOf
 returns-2 c =
     let a = c .before .before .before .before .before .args in
-    let size : packetSize (a .most) (length (a .packet .now)) ≡ true = not-false _ (c .before .before .before .if1 .left) in
+    let size : packetSize (a .most) (length (a .packet .now)) ≡ true =
+    not-false _ (c .before .before .before .if1 .left) in
     rw (size, sym (ap (λ (h : Header). h .version) (c .before .before .header-of .ensures)), ne-eqb _ _ (c .if2 .taken))
-
-ours-requires : tie.Need-ours-requires
-ours-requires c κs = search needs
 
 returns-3 : tie.Need-returns-3
 unfolding packetRefusal headerOf keyOf
 returns-3 c =
     let h = c .before .before .before in
     let a = h .before .before .before .before .before .args in
-    let size : packetSize (a .most) (length (a .packet .now)) ≡ true = not-false _ (h .before .before .before .if1 .left) in
-    let version : versionOf (a .packet .now) ≡ 1 = sym (ap (λ (g : Header). g .version) (h .before .before .header-of .ensures)) ∙ h .if2 .left in
-    let destination : oursOf (a .setup) (destinationOf (a .packet .now)) ≡ false = sym (ap (λ (g : Header). oursOf (a .setup) (g .key .destination .0)) (h .before .before .header-of .ensures)) ∙ sym (c .before .ours .ensures) ∙ not-true _ (c .if3 .taken) in
+    let size : packetSize (a .most) (length (a .packet .now)) ≡ true =
+    not-false _ (h .before .before .before .if1 .left) in
+    let version : versionOf (a .packet .now) ≡ 1 =
+    sym (ap (λ (g : Header). g .version) (h .before .before .header-of .ensures)) ∙ h .if2 .left in
+    let destination : oursOf (a .setup) (destinationOf (a .packet .now)) ≡ false =
+    sym (ap (λ (g : Header). oursOf (a .setup) (g .key .destination .0)) (h .before .before .header-of .ensures))
+    ∙ sym (c .before .ours .ensures) ∙ not-true _ (c .if3 .taken) in
     rw (size, eq-eqb _ _ version, destination)
 
 returns-4 : tie.Need-returns-4
@@ -51,12 +47,16 @@ unfolding packetRefusal headerOf keyOf
 returns-4 c =
     let h = c .before .before .before in
     let a = h .before .before .before .before .before .args in
-    let size : packetSize (a .most) (length (a .packet .now)) ≡ true = not-false _ (h .before .before .before .if1 .left) in
-    let version : versionOf (a .packet .now) ≡ 1 = sym (ap (λ (g : Header). g .version) (h .before .before .header-of .ensures)) ∙ h .if2 .left in
-    let destination : oursOf (a .setup) (destinationOf (a .packet .now)) ≡ true = sym (ap (λ (g : Header). oursOf (a .setup) (g .key .destination .0)) (h .before .before .header-of .ensures)) ∙ sym (c .before .ours .ensures) ∙ not-false _ (c .if3 .left) in
+    let size : packetSize (a .most) (length (a .packet .now)) ≡ true =
+    not-false _ (h .before .before .before .if1 .left) in
+    let version : versionOf (a .packet .now) ≡ 1 =
+    sym (ap (λ (g : Header). g .version) (h .before .before .header-of .ensures)) ∙ h .if2 .left in
+    let destination : oursOf (a .setup) (destinationOf (a .packet .now)) ≡ true =
+    sym (ap (λ (g : Header). oursOf (a .setup) (g .key .destination .0)) (h .before .before .header-of .ensures))
+    ∙ sym (c .before .ours .ensures) ∙ not-false _ (c .if3 .left) in
     rw (size, eq-eqb _ _ version, destination)
 
 pub packet-check-spec : {M : Type 1} → statement M
 packet-check-spec =
     tie.close
-    (tie.spec add-if1 returns header-of-requires returns-2 ours-requires returns-3 returns-4)
+    (tie.spec (λ c. search needs) returns (λ c κs. search needs) returns-2 (λ c κs. search needs) returns-3 returns-4)

@@ -12,23 +12,21 @@ use borrow.Author.Needs.{needs}
 use Rattle.decision.proofs.decision.source_check.Statement.{statement}
 use Rattle.decision.proofs.decision.source_check.Tie as tie
 
-key-of-requires : tie.Need-key-of-requires
-key-of-requires c κs = search needs
-
-is-endpoint-requires : tie.Need-is-endpoint-requires
-is-endpoint-requires c κs = search needs
-
 returns : tie.Need-returns
 unfolding sourceRefusal keyOf
 returns c =
-    let source : endpointEid (sourceOf (c .before .before .before .before .args .packet .now)) ≡ false = sym (ap (λ (k : Key). endpointEid (k .source .0)) (c .before .before .key-of .ensures)) ∙ sym (c .before .is-endpoint .ensures) ∙ not-true _ (c .if1 .taken) in
+    let source : endpointEid (sourceOf (c .before .before .before .before .args .packet .now)) ≡ false =
+    sym (ap (λ (k : Key). endpointEid (k .source .0)) (c .before .before .key-of .ensures))
+    ∙ sym (c .before .is-endpoint .ensures) ∙ not-true _ (c .if1 .taken) in
     rw source
 
 returns-2 : tie.Need-returns-2
 unfolding sourceRefusal keyOf
 returns-2 c =
-    let source : endpointEid (sourceOf (c .before .before .before .before .args .packet .now)) ≡ true = sym (ap (λ (k : Key). endpointEid (k .source .0)) (c .before .before .key-of .ensures)) ∙ sym (c .before .is-endpoint .ensures) ∙ not-false _ (c .if1 .left) in
+    let source : endpointEid (sourceOf (c .before .before .before .before .args .packet .now)) ≡ true =
+    sym (ap (λ (k : Key). endpointEid (k .source .0)) (c .before .before .key-of .ensures))
+    ∙ sym (c .before .is-endpoint .ensures) ∙ not-false _ (c .if1 .left) in
     rw source
 
 pub source-check-spec : {M : Type 1} → statement M
-source-check-spec = tie.close (tie.spec key-of-requires is-endpoint-requires returns returns-2)
+source-check-spec = tie.close (tie.spec (λ c κs. search needs) (λ c κs. search needs) returns returns-2)

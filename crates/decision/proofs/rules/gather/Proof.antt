@@ -7,51 +7,46 @@ use borrow.Author.Needs.{needs}
 use Rattle.decision.proofs.rules.gather.Statement.{statement}
 use Rattle.decision.proofs.rules.gather.Tie as tie
 
-add-next : tie.Need-add-next
-add-next c = search needs
-
-cast-got : tie.Need-cast-got
-cast-got c = search needs
-
 returns : tie.Need-returns
 unfolding gathered
 returns c = rw (ne-eqb _ _ (c .if1 .taken))
-
-is-wrong-requires : tie.Need-is-wrong-requires
-is-wrong-requires c κs = search needs
 
 returns-2 : tie.Need-returns-2
 unfolding gathered
 returns-2 c = rw (eq-eqb _ _ (c .before .before .if1 .left), sym (c .before .is-wrong .ensures) ∙ c .if2 .taken)
 
-add-total : tie.Need-add-total
-add-total c = search needs
-
 returns-3 : tie.Need-returns-3
 unfolding gathered
-returns-3 c = rw (eq-eqb _ _ (c .before .before .before .if1 .left), sym (c .before .before .is-wrong .ensures) ∙ c .before .if2 .left, lt-ltb _ _ (c .if3 .taken))
-
-cast-state-after : tie.Need-cast-state-after
-cast-state-after c = search needs
-
-state-after-requires : tie.Need-state-after-requires
-state-after-requires c κs = search needs
+returns-3 c =
+    rw (
+      eq-eqb _ _ (c .before .before .before .if1 .left),
+      sym (c .before .before .is-wrong .ensures)
+          ∙ c .before .if2 .left,
+      lt-ltb _ _ (c .if3 .taken),
+    )
 
 returns-4 : tie.Need-returns-4
 unfolding gathered
-returns-4 c = rw (eq-eqb _ _ (c .before .before .before .before .if1 .left), sym (c .before .before .before .is-wrong .ensures) ∙ c .before .before .if2 .left, le-ltb _ _ (c .before .if3 .left), c .state-after .ensures)
+returns-4 c =
+    rw (
+      eq-eqb _ _ (c .before .before .before .before .if1 .left),
+      sym (c .before .before .before .is-wrong .ensures)
+          ∙ c .before .before .if2 .left,
+      le-ltb _ _ (c .before .if3 .left),
+      c .state-after .ensures,
+    )
 
 pub gather-spec : {M : Type 1} → statement M
 gather-spec =
     tie.close
     (tie.spec
-    add-next
-    cast-got
+    (λ c. search needs)
+    (λ c. search needs)
     returns
-    is-wrong-requires
+    (λ c κs. search needs)
     returns-2
-    add-total
+    (λ c. search needs)
     returns-3
-    cast-state-after
-    state-after-requires
+    (λ c. search needs)
+    (λ c κs. search needs)
     returns-4)

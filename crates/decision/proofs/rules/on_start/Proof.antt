@@ -7,34 +7,38 @@ use borrow.Author.Needs.{needs}
 use Rattle.decision.proofs.rules.on_start.Statement.{statement}
 use Rattle.decision.proofs.rules.on_start.Tie as tie
 
-state-after-requires : tie.Need-state-after-requires
-state-after-requires c κs = search needs
-
-slot-of-requires : tie.Need-slot-of-requires
-slot-of-requires c κs = search needs
-
 returns : tie.Need-returns
 unfolding onStart
 returns c = rw (sym (c .before .slot-of .ensures), lt-ltb _ _ (c .if1 .taken), c .before .before .state-after .ensures)
 
-lowest-free-requires : tie.Need-lowest-free-requires
-lowest-free-requires c κs = search needs
-
 returns-2 : tie.Need-returns-2
 unfolding onStart
-returns-2 c = rw (sym (c .before .before .before .slot-of .ensures), le-ltb _ _ (c .before .before .if1 .left), sym (c .before .lowest-free .ensures), lt-ltb _ _ (c .if2 .taken), c .before .before .before .before .state-after .ensures)
+returns-2 c =
+    rw (
+      sym (c .before .before .before .slot-of .ensures),
+      le-ltb _ _ (c .before .before .if1 .left),
+      sym (c .before .lowest-free .ensures),
+      lt-ltb _ _ (c .if2 .taken),
+      c .before .before .before .before .state-after .ensures,
+    )
 
 returns-3 : tie.Need-returns-3
 unfolding onStart
-returns-3 c = rw (sym (c .before .before .before .slot-of .ensures), le-ltb _ _ (c .before .before .if1 .left), sym (c .before .lowest-free .ensures), le-ltb _ _ (c .if2 .left))
+returns-3 c =
+    rw (
+      sym (c .before .before .before .slot-of .ensures),
+      le-ltb _ _ (c .before .before .if1 .left),
+      sym (c .before .lowest-free .ensures),
+      le-ltb _ _ (c .if2 .left),
+    )
 
 pub on-start-spec : {M : Type 1} → statement M
 on-start-spec =
     tie.close
     (tie.spec
-    state-after-requires
-    slot-of-requires
+    (λ c κs. search needs)
+    (λ c κs. search needs)
     returns
-    lowest-free-requires
+    (λ c κs. search needs)
     returns-2
     returns-3)

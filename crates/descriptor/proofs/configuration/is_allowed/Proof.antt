@@ -5,27 +5,6 @@ use borrow.Author.Needs.{needs}
 use Rattle.descriptor.proofs.configuration.is_allowed.Statement.{statement}
 use Rattle.descriptor.proofs.configuration.is_allowed.Tie as tie
 
-is-inside-requires : tie.Need-is-inside-requires
-is-inside-requires c κs = search needs
-
-are-apart-requires : tie.Need-are-apart-requires
-are-apart-requires c κs = search needs
-
-is-clear-requires : tie.Need-is-clear-requires
-is-clear-requires c κs = search needs
-
-is-clear-requires-2 : tie.Need-is-clear-requires-2
-is-clear-requires-2 c κs = search needs
-
-ring-right-requires : tie.Need-ring-right-requires
-ring-right-requires c κs = search needs
-
-ring-right-requires-2 : tie.Need-ring-right-requires-2
-ring-right-requires-2 c κs = search needs
-
-on-units-requires : tie.Need-on-units-requires
-on-units-requires c κs = search needs
-
 returns : tie.Need-returns
 unfolding allowed
 returns c =
@@ -38,11 +17,11 @@ pub is-allowed-spec : {M : Type 1} → statement M
 is-allowed-spec =
     tie.close
     (tie.spec
-    is-inside-requires
-    are-apart-requires
-    is-clear-requires
-    is-clear-requires-2
-    ring-right-requires
-    ring-right-requires-2
-    on-units-requires
+    (λ c κs. search needs)
+    (λ c κs. search needs)
+    (λ c κs. search needs)
+    (λ c κs. search needs)
+    (λ c κs. search needs)
+    (λ c κs. search needs)
+    (λ c κs. search needs)
     returns)

@@ -4,11 +4,8 @@ use borrow.Author.Needs.{needs}
 use Rattle.descriptor.proofs.reading.has_version.Statement.{statement}
 use Rattle.descriptor.proofs.reading.has_version.Tie as tie
 
-byte-at-requires : tie.Need-byte-at-requires
-byte-at-requires c κs = search needs
-
 returns : tie.Need-returns
 returns c = rw (c .byte-at .ensures .0)
 
 pub has-version-spec : {M : Type 1} → statement M
-has-version-spec = tie.close (tie.spec byte-at-requires returns)
+has-version-spec = tie.close (tie.spec (λ c κs. search needs) returns)

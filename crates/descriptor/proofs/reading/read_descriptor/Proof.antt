@@ -6,9 +6,11 @@ use lib.Dec.{lit≤}
 use borrow.Author.Tests.{not-true, not-false}
 use Rattle.descriptor.specs.Configuration.{allowed}
 use Rattle.descriptor.specs.Descriptor.{found}
-use Rattle.descriptor.proofs.Refusals.{refusal-9-short, refusal-9-signature, refusal-10-version, refusal-10-type, refusal-10-places, refusal-none, outcome-refused, outcome-found}
+use Rattle.descriptor.proofs.Refusals.{refusal-9-short, refusal-9-signature, refusal-10-version, refusal-10-type}
+use Rattle.descriptor.proofs.Refusals.{refusal-10-places, refusal-none, outcome-refused, outcome-found}
 use mathlib.Core.Path.{sym, _∙_, ap}
-use Rattle.descriptor.proofs.Refusals.{refusal-9-short, refusal-9-signature, refusal-10-version, refusal-10-type, refusal-10-places, outcome-refused}
+use Rattle.descriptor.proofs.Refusals.{refusal-9-short, refusal-9-signature, refusal-10-version, refusal-10-type}
+use Rattle.descriptor.proofs.Refusals.{refusal-10-places, outcome-refused}
 use borrow.Author.Needs.{needs}
 use Rattle.descriptor.proofs.reading.read_descriptor.Statement.{statement}
 use Rattle.descriptor.proofs.reading.read_descriptor.Tie as tie
@@ -23,16 +25,11 @@ held {t} h e = sym e ∙ not-false t h
 returns : tie.Need-returns
 returns c = sym (outcome-refused _ 9 (lit≤ tt) (refusal-9-short _ (c .if1 .taken)))
 
-has-signature-requires : tie.Need-has-signature-requires
-has-signature-requires c κs = search needs
-
 returns-2 : tie.Need-returns-2
 returns-2 c =
     let u = c .before .before in
-    sym (outcome-refused _ 9 (lit≤ tt) (refusal-9-signature _ (u .if1 .left) (failed (c .if2 .taken) (c .before .has-signature .ensures))))
-
-has-version-requires : tie.Need-has-version-requires
-has-version-requires c κs = search needs
+    sym (outcome-refused _ 9 (lit≤ tt)
+    (refusal-9-signature _ (u .if1 .left) (failed (c .if2 .taken) (c .before .has-signature .ensures))))
 
 returns-3 : tie.Need-returns-3
 returns-3 c =
@@ -43,9 +40,6 @@ returns-3 c =
     (refusal-10-version _ (v .if1 .left)
     (held (u .if2 .left) (u .before .has-signature .ensures))
     (failed (c .if3 .taken) (c .before .has-version .ensures))))
-
-has-type-requires : tie.Need-has-type-requires
-has-type-requires c κs = search needs
 
 returns-4 : tie.Need-returns-4
 returns-4 c =
@@ -58,12 +52,6 @@ returns-4 c =
     (held (u .if2 .left) (u .before .has-signature .ensures))
     (held (t .if3 .left) (t .before .has-version .ensures))
     (failed (c .if4 .taken) (c .before .has-type .ensures))))
-
-configuration-in-requires : tie.Need-configuration-in-requires
-configuration-in-requires c κs = search needs
-
-is-allowed-requires : tie.Need-is-allowed-requires
-is-allowed-requires c κs = search needs
 
 returns-5 : tie.Need-returns-5
 returns-5 c =
@@ -101,13 +89,13 @@ read-descriptor-spec =
     tie.close
     (tie.spec
     returns
-    has-signature-requires
+    (λ c κs. search needs)
     returns-2
-    has-version-requires
+    (λ c κs. search needs)
     returns-3
-    has-type-requires
+    (λ c κs. search needs)
     returns-4
-    configuration-in-requires
-    is-allowed-requires
+    (λ c κs. search needs)
+    (λ c κs. search needs)
     returns-5
     returns-6)

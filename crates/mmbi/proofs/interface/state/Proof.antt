@@ -6,34 +6,26 @@ use borrow.Author.Needs.{needs}
 use Rattle.mmbi.proofs.interface.state.Statement.{statement}
 use Rattle.mmbi.proofs.interface.state.Tie as tie
 
-by-two-requires : tie.Need-by-two-requires
-by-two-requires c κs = search needs
-
-by-two-requires-2 : tie.Need-by-two-requires-2
-by-two-requires-2 c κs = search needs
-
-by-two-requires-3 : tie.Need-by-two-requires-3
-by-two-requires-3 c κs = search needs
-
-by-two-requires-4 : tie.Need-by-two-requires-4
-by-two-requires-4 c κs = search needs
-
-by-two-requires-5 : tie.Need-by-two-requires-5
-by-two-requires-5 c κs = search needs
-
 returns : tie.Need-returns
 unfolding stateOf
 returns c =
     let f = c .before .before .before .before .before .args .flags in
-    rw (c .by-two5 .ensures, c .before .by-two4 .ensures, c .before .before .by-two3 .ensures, c .before .before .before .by-two2 .ensures, c .before .before .before .before .by-two .ensures) (each-row (f .«controller_up») (f .«controller_reset») (f .«host_up») (f .«host_reset») .0)
+    rw (
+      c .by-two5 .ensures,
+      c .before .by-two4 .ensures,
+      c .before .before .by-two3 .ensures,
+      c .before .before .before .by-two2 .ensures,
+      c .before .before .before .before .by-two .ensures,
+    )
+    (each-row (f .«controller_up») (f .«controller_reset») (f .«host_up») (f .«host_reset») .0)
 
 pub state-spec : {M : Type 1} → statement M
 state-spec =
     tie.close
     (tie.spec
-    by-two-requires
-    by-two-requires-2
-    by-two-requires-3
-    by-two-requires-4
-    by-two-requires-5
+    (λ c κs. search needs)
+    (λ c κs. search needs)
+    (λ c κs. search needs)
+    (λ c κs. search needs)
+    (λ c κs. search needs)
     returns)

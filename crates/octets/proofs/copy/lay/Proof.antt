@@ -22,7 +22,8 @@ abbrev μ-loop : tie.MeasureT-loop
 μ-loop out₀ at new n i₀ out i = n - i
 
 -- as much as fits, or all there is
-cut : (l : List ℕ) (at : ℕ) (new : List ℕ) (n : ℕ) → n ≡ min (length l - at) (length new) → laid l at (take n new) ≡ laid l at new
+cut : (l : List ℕ) (at : ℕ) (new : List ℕ) (n : ℕ) → n ≡ min (length l - at) (length new)
+    → laid l at (take n new) ≡ laid l at new
 cut l at new n e =
     by-cases (decLt n (length new))
     (λ (h : n < length new). laid-cut l at new n (omega arith))

@@ -7,12 +7,6 @@ use borrow.Author.Needs.{needs}
 use Rattle.octets.proofs.copy.lay_byte.Statement.{statement}
 use Rattle.octets.proofs.copy.lay_byte.Tie as tie
 
-slice-write-out : tie.Need-slice-write-out
-slice-write-out c = search needs
-
-same-length : tie.Need-same-length
-same-length c = search needs
-
 returns : tie.Need-returns
 unfolding laid
 returns c = search needs
@@ -22,4 +16,4 @@ unfolding laid
 returns-2 c = sym (set-out (c .before .args .out .now) (c .before .args .at) (c .before .args .b) (c .if1 .left))
 
 pub lay-byte-spec : {M : Type 1} → statement M
-lay-byte-spec = tie.close (tie.spec slice-write-out same-length returns returns-2)
+lay-byte-spec = tie.close (tie.spec (λ c. search needs) (λ c. search needs) returns returns-2)

@@ -9,7 +9,8 @@ use Rattle.octets.proofs.Choice.{within-bounds}
 use Rattle.octets.specs.Words.{lowFirst, wordAt}
 use Rattle.mctp.specs.Packet.{mostRight}
 use Rattle.pcc.specs.Region.{signatureOf, command}
-use Rattle.pcc.proofs.Reading.{setup-body, setup-id, room, signature, other-command, short, long, within-limits, told-refused, told-good}
+use Rattle.pcc.proofs.Reading.{setup-body, setup-id, room, signature, other-command, short, long, within-limits}
+use Rattle.pcc.proofs.Reading.{told-refused, told-good}
 use borrow.Author.Needs.{needs}
 use Rattle.pcc.proofs.reader.checked.Statement.{statement}
 use Rattle.pcc.proofs.reader.checked.Tie as tie
@@ -30,11 +31,9 @@ commanded c = sym (c .before .word-low-first2 .ensures) ∙ c .if5 .left
 limits : (c : tie.Else1) → (64 ≤ c .before .before .before .args .most) × (c .before .before .before .args .most ≤ 246)
 limits c = within-bounds 64 246 _ (body c)
 
-body-right-requires : tie.Need-body-right-requires
-body-right-requires c κs = search needs
-
 returns : tie.Need-returns
-returns c = sym (told-refused _ _ _ 0 (setup-body _ _ _ (sym (c .before .body-right .ensures) ∙ not-true _ (c .if1 .taken))))
+returns c =
+    sym (told-refused _ _ _ 0 (setup-body _ _ _ (sym (c .before .body-right .ensures) ∙ not-true _ (c .if1 .taken))))
 
 returns-2 : tie.Need-returns-2
 returns-2 c = sym (told-refused _ _ _ 0 (setup-id _ _ _ (body (c .before)) (omega arith)))
@@ -42,34 +41,22 @@ returns-2 c = sym (told-refused _ _ _ 0 (setup-id _ _ _ (body (c .before)) (omeg
 returns-3 : tie.Need-returns-3
 returns-3 c = sym (told-refused _ _ _ 1 (room _ _ _ (body (c .before .before)) (omega arith) (omega arith)))
 
-word-low-first-requires : tie.Need-word-low-first-requires
-word-low-first-requires c κs = search needs
-
-add-if4 : tie.Need-add-if4
-add-if4 c = search needs
-
 returns-4 : tie.Need-returns-4
 returns-4 c =
-    sym (told-refused _ _ _ 8 (signature _ _ _ (body (c .before .before .before .before)) (omega arith) (omega arith) (λ e. c .if4 .taken (c .before .word-low-first .ensures ∙ e))))
-
-word-low-first-requires-2 : tie.Need-word-low-first-requires-2
-word-low-first-requires-2 c κs = search needs
+    sym (told-refused _ _ _ 8 (signature _ _ _ (body (c .before .before .before .before)) (omega arith) (omega arith)
+    (λ e. c .if4 .taken (c .before .word-low-first .ensures ∙ e))))
 
 returns-5 : tie.Need-returns-5
 returns-5 c =
     let back = c .before .before in
-    sym (told-refused _ _ _ 4 (other-command _ _ _ (body (back .before .before .before .before)) (omega arith) (omega arith) (signed back) (λ e. c .if5 .taken (c .before .word-low-first2 .ensures ∙ e))))
-
-word-low-first-requires-3 : tie.Need-word-low-first-requires-3
-word-low-first-requires-3 c κs = search needs
-
-cast-length : tie.Need-cast-length
-cast-length c = search needs
+    sym (told-refused _ _ _ 4 (other-command _ _ _ (body (back .before .before .before .before)) (omega arith)
+    (omega arith) (signed back) (λ e. c .if5 .taken (c .before .word-low-first2 .ensures ∙ e))))
 
 returns-6 : tie.Need-returns-6
 returns-6 c =
     let four = c .before .before .before .before in
-    sym (told-refused _ _ _ 2 (short _ _ _ (body (four .before .before .before .before)) (omega arith) (omega arith) (signed four) (commanded (c .before .before)) (omega arith)))
+    sym (told-refused _ _ _ 2 (short _ _ _ (body (four .before .before .before .before)) (omega arith) (omega arith)
+    (signed four) (commanded (c .before .before)) (omega arith)))
 
 longest-in-requires : tie.Need-longest-in-requires
 longest-in-requires c κs = (limits (c .before .before .before .before .before .before .before .before) .1, omega arith)
@@ -77,13 +64,8 @@ longest-in-requires c κs = (limits (c .before .before .before .before .before .
 returns-7 : tie.Need-returns-7
 returns-7 c =
     let four = c .before .before .before .before .before .before in
-    sym (told-refused _ _ _ 2 (long _ _ _ (body (four .before .before .before .before)) (omega arith) (omega arith) (signed four) (commanded (c .before .before .before .before)) (omega arith)))
-
-sub-t9 : tie.Need-sub-t9
-sub-t9 c = search needs
-
-word-low-first-requires-4 : tie.Need-word-low-first-requires-4
-word-low-first-requires-4 c κs = search needs
+    sym (told-refused _ _ _ 2 (long _ _ _ (body (four .before .before .before .before)) (omega arith) (omega arith)
+    (signed four) (commanded (c .before .before .before .before)) (omega arith)))
 
 returns-8 : tie.Need-returns-8
 returns-8 c =
@@ -91,26 +73,27 @@ returns-8 c =
     rw (c .before .before .before .before .word-low-first3 .ensures, c .word-low-first4 .ensures)
     (sym
     (told-good _ _ _
-    (within-limits _ _ _ (body (four .before .before .before .before)) (omega arith) (omega arith) (signed four) (commanded (c .before .before .before .before .before)) (omega arith) (omega arith))))
+    (within-limits _ _ _ (body (four .before .before .before .before)) (omega arith) (omega arith) (signed four)
+    (commanded (c .before .before .before .before .before)) (omega arith) (omega arith))))
 
 pub checked-spec : {M : Type 1} → statement M
 checked-spec =
     tie.close
     (tie.spec
-    body-right-requires
+    (λ c κs. search needs)
     returns
     returns-2
     returns-3
-    word-low-first-requires
-    add-if4
+    (λ c κs. search needs)
+    (λ c. search needs)
     returns-4
-    word-low-first-requires-2
+    (λ c κs. search needs)
     returns-5
-    word-low-first-requires-3
-    cast-length
+    (λ c κs. search needs)
+    (λ c. search needs)
     returns-6
     longest-in-requires
     returns-7
-    sub-t9
-    word-low-first-requires-4
+    (λ c. search needs)
+    (λ c κs. search needs)
     returns-8)

@@ -6,35 +6,23 @@ use borrow.Author.Needs.{needs}
 use Rattle.pcc.proofs.reader.packet.Statement.{statement}
 use Rattle.pcc.proofs.reader.packet.Tie as tie
 
-carried-requires : tie.Need-carried-requires
-carried-requires c κs = search needs
-
-enum-known-size : tie.Need-enum-known-size
-enum-known-size c = search needs
-
-part-requires : tie.Need-part-requires
-part-requires c κs = search needs
-
-enum-told : tie.Need-enum-told
-enum-told c = search needs
-
-part-requires-2 : tie.Need-part-requires-2
-part-requires-2 c κs = search needs
-
 returns : tie.Need-returns
-returns c = c .part .ensures ∙ packet-said _ _ _ (c .before .before .before .before .carried .ensures) (c .before .before .size .given .1)
+returns c =
+    c .part .ensures ∙ packet-said _ _ _ (c .before .before .before .before .carried .ensures)
+    (c .before .before .size .given .1)
 
 returns-2 : tie.Need-returns-2
-returns-2 c = c .part2 .ensures ∙ packet-said _ _ _ (c .before .before .before .carried .ensures) (c .before .enum-told .given .1)
+returns-2 c =
+    c .part2 .ensures ∙ packet-said _ _ _ (c .before .before .before .carried .ensures) (c .before .enum-told .given .1)
 
 pub packet-spec : {M : Type 1} → statement M
 packet-spec =
     tie.close
     (tie.spec
-    carried-requires
-    enum-known-size
-    part-requires
-    enum-told
-    part-requires-2
+    (λ c κs. search needs)
+    (λ c. search needs)
+    (λ c κs. search needs)
+    (λ c. search needs)
+    (λ c κs. search needs)
     returns
     returns-2)

@@ -23,38 +23,11 @@ module _ (l : List ℕ) (n : ℕ) where
       let more : length (drop 16 l) ≤ n = simp length-drop (omega arith) in
       take-all (length l - 16) (drop 16 l) all ∙ sym (take-all n (drop 16 l) more)
 
-sub-result : tie.Need-sub-result
-sub-result c = search needs
-
-part-result-start : tie.Need-part-result-start
-part-result-start c = search needs
-
-part-result-end : tie.Need-part-result-end
-part-result-end c = search needs
-
 returns : tie.Need-returns
 returns c = none (c .before .before .args .region .now) (c .before .before .args .size) (omega arith)
 
-add-result : tie.Need-add-result
-add-result c = search needs
-
-sub-result-2 : tie.Need-sub-result-2
-sub-result-2 c = search needs
-
-part-result-start-2 : tie.Need-part-result-start-2
-part-result-start-2 c = search needs
-
-part-result-end-2 : tie.Need-part-result-end-2
-part-result-end-2 c = search needs
-
 returns-2 : tie.Need-returns-2
 returns-2 c = whole (c .before .before .before .args .region .now) (c .before .before .before .args .size)
-
-part-result-start-3 : tie.Need-part-result-start-3
-part-result-start-3 c = search needs
-
-part-result-end-3 : tie.Need-part-result-end-3
-part-result-end-3 c = search needs
 
 returns-3 : tie.Need-returns-3
 returns-3 c = cut (c .before .before .before .args .region .now) (c .before .before .before .args .size) (omega arith)
@@ -63,15 +36,15 @@ pub part-spec : {M : Type 1} → statement M
 part-spec =
     tie.close
     (tie.spec
-    sub-result
-    part-result-start
-    part-result-end
+    (λ c. search needs)
+    (λ c. search needs)
+    (λ c. search needs)
     returns
-    add-result
-    sub-result-2
-    part-result-start-2
-    part-result-end-2
+    (λ c. search needs)
+    (λ c. search needs)
+    (λ c. search needs)
+    (λ c. search needs)
     returns-2
-    part-result-start-3
-    part-result-end-3
+    (λ c. search needs)
+    (λ c. search needs)
     returns-3)

@@ -18,9 +18,6 @@ body c = sym (c .before .body-right .ensures) ∙ not-false _ (c .if1 .left)
 limits : (c : tie.Else1) → (64 ≤ c .before .before .args .most) × (c .before .before .args .most ≤ 246)
 limits c = within-bounds 64 246 _ (body c)
 
-body-right-requires : tie.Need-body-right-requires
-body-right-requires c κs = search needs
-
 returns : tie.Need-returns
 returns c = sym (setup-body _ _ _ _ (sym (c .before .body-right .ensures) ∙ not-true _ (c .if1 .taken)))
 
@@ -53,7 +50,7 @@ pub may-write-spec : {M : Type 1} → statement M
 may-write-spec =
     tie.close
     (tie.spec
-    body-right-requires
+    (λ c κs. search needs)
     returns
     returns-2
     returns-3

@@ -16,23 +16,11 @@ may : (c : tie.After-enum-told) →
     Writable (a .most) (length (a .region .now)) (a .id) (length (a .packet .now))
 may c = writable _ _ _ _ (sym (number-written (c .before .before .may-write .ensures) (c .enum-told .given .1)))
 
-may-write-requires : tie.Need-may-write-requires
-may-write-requires c κs = search needs
-
-enum-told : tie.Need-enum-told
-enum-told c = search needs
-
 fill-requires : tie.Need-fill-requires
 fill-requires c κs =
     let w = may (c .before) in
     let limits = within-bounds 64 246 (c .before .before .before .before .before .before .args .most) (w .body) in
     omega arith
-
-enum-known-allowed : tie.Need-enum-known-allowed
-enum-known-allowed c = search needs
-
-same-length : tie.Need-same-length
-same-length c = search needs
 
 returns : tie.Need-returns
 returns c =
@@ -41,17 +29,20 @@ returns c =
 
 returns-2 : tie.Need-returns-2
 returns-2 c =
-    let e = number-written (c .before .before .before .may-write .ensures) (c .before .allowed .given .1) in
-    (e, sym (written-refused _ _ _ _ _ (refused-positive (c .before .before .before .may-write .ensures) (c .before .allowed .given .1))))
+    let e = number-written (c .before .before .before .may-write .ensures) (c .before .allowed .given .1) in (
+      e,
+      sym (written-refused _ _ _ _ _
+          (refused-positive (c .before .before .before .may-write .ensures) (c .before .allowed .given .1))),
+    )
 
 pub write-up-to-spec : {M : Type 1} → statement M
 write-up-to-spec =
     tie.close
     (tie.spec
-    may-write-requires
-    enum-told
+    (λ c κs. search needs)
+    (λ c. search needs)
     fill-requires
-    enum-known-allowed
-    same-length
+    (λ c. search needs)
+    (λ c. search needs)
     returns
     returns-2)

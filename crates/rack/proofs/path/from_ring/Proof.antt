@@ -1,4 +1,5 @@
--- `rack::path::from_ring` meets its contract: what the ring's own promise says of the output holds whatever the message rules answer.
+-- `rack::path::from_ring` meets its contract: what the ring's own promise says of the output holds whatever the message
+-- rules answer.
 -- Assumes nothing.
 use native.Mathlib.Nat.{sub-zero}
 use native.Mathlib.Omega.{arith}

@@ -6,14 +6,10 @@ use borrow.Author.Needs.{needs}
 use Rattle.rack.proofs.path.give.Statement.{statement}
 use Rattle.rack.proofs.path.give.Tie as tie
 
-give-requires : tie.Need-give-requires
-give-requires c κs = search needs
-
-same-length : tie.Need-same-length
-same-length c = search needs
-
 returns : tie.Need-returns
-returns c = ap (ruled (c .before .before .before .before .before .before .before .args .known)) (c .before .before .before .give .ensures)
+returns c =
+    ap (ruled (c .before .before .before .before .before .before .before .args .known))
+    (c .before .before .before .give .ensures)
 
 pub give-spec : {M : Type 1} → statement M
-give-spec = tie.close (tie.spec give-requires same-length returns)
+give-spec = tie.close (tie.spec (λ c κs. search needs) (λ c. search needs) returns)

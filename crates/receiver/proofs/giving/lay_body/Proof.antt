@@ -10,25 +10,12 @@ use borrow.Author.Needs.{needs}
 use Rattle.receiver.proofs.giving.lay_body.Statement.{statement}
 use Rattle.receiver.proofs.giving.lay_body.Tie as tie
 
-sub-lay : tie.Need-sub-lay
-sub-lay c = search needs
-
-part-lay-start : tie.Need-part-lay-start
-part-lay-start c = search needs
-
-part-lay-end : tie.Need-part-lay-end
-part-lay-end c = search needs
-
-lay-requires : tie.Need-lay-requires
-lay-requires c κs = search needs
-
-same-length : tie.Need-same-length
-same-length c = search needs
-
 returns : tie.Need-returns
 returns c =
     let a = c .before .before .before .before .before .before .before .before .args in
-    let rest : take (length (a .packet .now) - 4) (drop 4 (a .packet .now)) ≡ drop 4 (a .packet .now) = take-all (length (a .packet .now) - 4) (drop 4 (a .packet .now)) (omega (arith, length-drop 4 (a .packet .now))) in
+    let rest : take (length (a .packet .now) - 4) (drop 4 (a .packet .now)) ≡ drop 4 (a .packet .now) =
+    take-all (length (a .packet .now) - 4) (drop 4 (a .packet .now))
+    (omega (arith, length-drop 4 (a .packet .now))) in
     c .before .before .lay .ensures ∙ ap (laid (a .memory .now) (a .at)) rest
 
 returns-2 : tie.Need-returns-2
@@ -41,4 +28,5 @@ returns-2 c =
 pub lay-body-spec : {M : Type 1} → statement M
 lay-body-spec =
     tie.close
-    (tie.spec sub-lay part-lay-start part-lay-end lay-requires same-length returns returns-2)
+    (tie.spec (λ c. search needs) (λ c. search needs) (λ c. search needs) (λ c κs. search needs)
+    (λ c. search needs) returns returns-2)

@@ -1,4 +1,5 @@
--- `records::decimal::count_digits` meets its contract. The invariant: the digits passed and those of what is left are all.
+-- `records::decimal::count_digits` meets its contract. The invariant: the digits passed and those of what is left are
+-- all.
 -- Assumes nothing.
 use Prim.Native.Nat.{_+_, _≤_}
 use mathlib.Core.Path.{_≡_}

@@ -1,4 +1,5 @@
--- `records::decimal::lay_digits` meets its contract. The invariant: the last digits are laid, and those of `rest` are to come.
+-- `records::decimal::lay_digits` meets its contract. The invariant: the last digits are laid, and those of `rest` are
+-- to come.
 -- Assumes nothing.
 use Prim.Native.Nat.{_≤_}
 use mathlib.Core.Path.{_≡_, refl, _∙_}
@@ -19,11 +20,16 @@ abbrev μ-loop : tie.MeasureT-loop
 
 loop-holds : tie.Need-loop-holds Inv-loop μ-loop
 loop-holds c =
-    let a = c .before .args in
-    (laying-none (a .out .now) (a .at) (a .n) (a .count) (c .before .pre .1), omega arith, omega (arith, decimal-most (a .n)), refl)
+    let a = c .before .args in (
+      laying-none (a .out .now) (a .at) (a .n) (a .count) (c .before .pre .1),
+      omega arith,
+      omega (arith, decimal-most (a .n)),
+      refl,
+    )
 
 sub-left : tie.Need-sub-left Inv-loop μ-loop
-sub-left c = omega (arith, count-more (c .before .loop .rest) (omega arith) (omega arith), c .before .loop .inv .0 .counted)
+sub-left c =
+    omega (arith, count-more (c .before .loop .rest) (omega arith) (omega arith), c .before .loop .inv .0 .counted)
 
 add-lay-byte : tie.Need-add-lay-byte Inv-loop μ-loop
 add-lay-byte c = omega arith
@@ -41,7 +47,8 @@ loop-again : tie.Need-loop-again Inv-loop μ-loop
 loop-again c =
     let a = c .before .before .before .before .before .before .before .before .args in
     let l = c .before .before .before .before .before .before .loop in
-    let turn = laying-more (a .out .now) (a .at) (a .n) (l .left) (l .rest) (l .out) (l .inv .0) (omega arith) (omega arith) in (
+    let turn = laying-more (a .out .now) (a .at) (a .n) (l .left) (l .rest) (l .out) (l .inv .0) (omega arith)
+    (omega arith) in (
       rw (c .before .before .lay-byte .ensures, c .before .before .before .digit .ensures) turn,
       omega arith,
       omega arith,

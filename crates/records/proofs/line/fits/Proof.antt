@@ -16,11 +16,8 @@ returns c =
     let most = line-most (a .number) (a .line) in
     sym (le-leb (length (lineBytes (a .number) (a .line))) (a .room) (omega arith))
 
-line-size-requires : tie.Need-line-size-requires
-line-size-requires c κs = search needs
-
 returns-2 : tie.Need-returns-2
 returns-2 c = rw (c .line-size .ensures)
 
 pub fits-spec : {M : Type 1} → statement M
-fits-spec = tie.close (tie.spec returns line-size-requires returns-2)
+fits-spec = tie.close (tie.spec returns (λ c κs. search needs) returns-2)

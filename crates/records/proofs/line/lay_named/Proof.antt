@@ -9,27 +9,13 @@ use borrow.Author.Needs.{needs}
 use Rattle.records.proofs.line.lay_named.Statement.{statement}
 use Rattle.records.proofs.line.lay_named.Tie as tie
 
-lay-requires : tie.Need-lay-requires
-lay-requires c κs = search needs
-
-add-behind : tie.Need-add-behind
-add-behind c = search needs
-
-lay-decimal-requires : tie.Need-lay-decimal-requires
-lay-decimal-requires c κs = search needs
-
-add-result : tie.Need-add-result
-add-result c = search needs
-
-same-length : tie.Need-same-length
-same-length c = search needs
-
 returns : tie.Need-returns
 unfolding named
 returns c =
     let a = c .before .before .before .before .before .before .before .before .before .before .args in
     let digits = c .before .before .lay-decimal .ensures in (
-      placed-append (a .word .now) (decimal (a .n)) (record { place = refl; stored = c .before .before .before .before .before .before .lay .ensures })
+      placed-append (a .word .now) (decimal (a .n))
+          (record { place = refl; stored = c .before .before .before .before .before .before .lay .ensures })
           (record { place = omega arith; stored = digits .2 }),
       omega arith,
     )
@@ -37,4 +23,5 @@ returns c =
 pub lay-named-spec : {M : Type 1} → statement M
 lay-named-spec =
     tie.close
-    (tie.spec lay-requires add-behind lay-decimal-requires add-result same-length returns)
+    (tie.spec (λ c κs. search needs) (λ c. search needs) (λ c κs. search needs) (λ c. search needs)
+    (λ c. search needs) returns)

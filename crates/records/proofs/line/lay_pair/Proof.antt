@@ -7,27 +7,19 @@ use borrow.Author.Needs.{needs}
 use Rattle.records.proofs.line.lay_pair.Statement.{statement}
 use Rattle.records.proofs.line.lay_pair.Tie as tie
 
-lay-named-requires : tie.Need-lay-named-requires
-lay-named-requires c κs = search needs
-
-lay-named-requires-2 : tie.Need-lay-named-requires-2
-lay-named-requires-2 c κs = search needs
-
-lay-ending-requires : tie.Need-lay-ending-requires
-lay-ending-requires c κs = search needs
-
-same-length : tie.Need-same-length
-same-length c = search needs
-
 returns : tie.Need-returns
 unfolding pair
 returns c =
-    let a = c .before .before .before .before .before .before .before .before .before .before .before .before .before .before .before .args in
+    let a =
+    c .before .before .before .before .before .before .before .before .before .before .before .before .before .before .before .args in
     let second = named (a .second .now) (a .b) in
-    placed-append (named (a .first .now) (a .a)) (second ++ ending (a .again)) (c .before .before .before .before .before .before .before .before .before .before .lay-named .ensures .0)
-    (placed-append second (ending (a .again)) (c .before .before .before .before .before .before .lay-named2 .ensures .0) (c .before .before .lay-ending .ensures))
+    placed-append (named (a .first .now) (a .a)) (second ++ ending (a .again))
+    (c .before .before .before .before .before .before .before .before .before .before .lay-named .ensures .0)
+    (placed-append second (ending (a .again))
+    (c .before .before .before .before .before .before .lay-named2 .ensures .0)
+    (c .before .before .lay-ending .ensures))
 
 pub lay-pair-spec : {M : Type 1} → statement M
 lay-pair-spec =
     tie.close
-    (tie.spec lay-named-requires lay-named-requires-2 lay-ending-requires same-length returns)
+    (tie.spec (λ c κs. search needs) (λ c κs. search needs) (λ c κs. search needs) (λ c. search needs) returns)

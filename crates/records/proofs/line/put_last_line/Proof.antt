@@ -13,24 +13,6 @@ returns c =
     let none = put-no-room (a .out .now) (a .at) (lastLine (a .arrivals) (a .packets)) (omega arith) in
     search needs
 
-pair-size-requires : tie.Need-pair-size-requires
-pair-size-requires c κs = search needs
-
-sub-if2 : tie.Need-sub-if2
-sub-if2 c = search needs
-
-slice-aggregate-lay-pair : tie.Need-slice-aggregate-lay-pair
-slice-aggregate-lay-pair c = search needs
-
-slice-aggregate-lay-pair-2 : tie.Need-slice-aggregate-lay-pair-2
-slice-aggregate-lay-pair-2 c = search needs
-
-lay-pair-requires : tie.Need-lay-pair-requires
-lay-pair-requires c κs = search needs
-
-same-length : tie.Need-same-length
-same-length c = search needs
-
 returns-2 : tie.Need-returns-2
 unfolding lastLine
 returns-2 c =
@@ -52,11 +34,11 @@ put-last-line-spec =
     tie.close
     (tie.spec
     returns
-    pair-size-requires
-    sub-if2
-    slice-aggregate-lay-pair
-    slice-aggregate-lay-pair-2
-    lay-pair-requires
-    same-length
+    (λ c κs. search needs)
+    (λ c. search needs)
+    (λ c. search needs)
+    (λ c. search needs)
+    (λ c κs. search needs)
+    (λ c. search needs)
     returns-2
     returns-3)

@@ -13,31 +13,23 @@ use Rattle.records.proofs.line.put_line.Tie as tie
 returns : tie.Need-returns
 returns c = put-no-room _ _ _ (omega arith)
 
-sub-fits : tie.Need-sub-fits
-sub-fits c = search needs
-
-fits-requires : tie.Need-fits-requires
-fits-requires c κs = search needs
-
-lay-line-requires : tie.Need-lay-line-requires
-lay-line-requires c κs = search needs
-
-same-length : tie.Need-same-length
-same-length c = search needs
-
 returns-2 : tie.Need-returns-2
 returns-2 c =
     let a = c .before .before .before .before .before .before .before .before .args in
-    let room = leb-true (length (lineBytes (a .number) (a .line))) _ (sym (c .before .before .before .before .before .fits2 .ensures) ∙ c .before .before .before .before .if2 .taken) in
+    let room = leb-true (length (lineBytes (a .number) (a .line))) _
+    (sym (c .before .before .before .before .before .fits2 .ensures)
+    ∙ c .before .before .before .before .if2 .taken) in
     put-placed _ _ _ (omega arith) (c .before .before .lay-line .ensures)
 
 returns-3 : tie.Need-returns-3
 returns-3 c =
     let a = c .before .before .before .before .args in
-    let room = leb-false (length (lineBytes (a .number) (a .line))) _ (sym (c .before .fits2 .ensures) ∙ c .if2 .left) in
+    let room = leb-false (length (lineBytes (a .number) (a .line))) _
+    (sym (c .before .fits2 .ensures) ∙ c .if2 .left) in
     put-no-room _ _ _ (omega arith)
 
 pub put-line-spec : {M : Type 1} → statement M
 put-line-spec =
     tie.close
-    (tie.spec returns sub-fits fits-requires lay-line-requires same-length returns-2 returns-3)
+    (tie.spec returns (λ c. search needs) (λ c κs. search needs) (λ c κs. search needs)
+    (λ c. search needs) returns-2 returns-3)

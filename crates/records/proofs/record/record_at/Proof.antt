@@ -10,22 +10,11 @@ use Rattle.records.proofs.record.record_at.Tie as tie
 returns : tie.Need-returns
 returns c = let a = c .before .before .args in sym (at-end (a .s .now) (a .at) (omega arith))
 
-byte-at-requires : tie.Need-byte-at-requires
-byte-at-requires c κs = search needs
-
-cast-size : tie.Need-cast-size
-cast-size c = search needs
-
-add-start : tie.Need-add-start
-add-start c = search needs
-
-add-if2 : tie.Need-add-if2
-add-if2 c = search needs
-
 returns-2 : tie.Need-returns-2
 returns-2 c =
     let a = c .before .before .before .before .args in
-    rw (c .before .byte-at .ensures .0) (sym (at-whole (a .s .now) (a .at) (c .before .before .if1 .left) (omega arith)))
+    rw (c .before .byte-at .ensures .0)
+    (sym (at-whole (a .s .now) (a .at) (c .before .before .if1 .left) (omega arith)))
 
 returns-3 : tie.Need-returns-3
 returns-3 c =
@@ -34,4 +23,5 @@ returns-3 c =
 
 pub record-at-spec : {M : Type 1} → statement M
 record-at-spec =
-    tie.close (tie.spec returns byte-at-requires cast-size add-start add-if2 returns-2 returns-3)
+    tie.close (tie.spec returns (λ c κs. search needs) (λ c. search needs) (λ c. search needs)
+    (λ c. search needs) returns-2 returns-3)

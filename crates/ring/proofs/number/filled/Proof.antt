@@ -7,12 +7,6 @@ use borrow.Author.Needs.{needs}
 use Rattle.ring.proofs.number.filled.Statement.{statement}
 use Rattle.ring.proofs.number.filled.Tie as tie
 
-add-result : tie.Need-add-result
-add-result c = search needs
-
-sub-result : tie.Need-sub-result
-sub-result c = search needs
-
 returns : tie.Need-returns
 returns c = sym (filled-near _ _ _ (omega arith) (omega arith))
 
@@ -20,4 +14,4 @@ returns-2 : tie.Need-returns-2
 returns-2 c = sym (filled-over _ _ _ (omega arith) (omega arith))
 
 pub filled-spec : {M : Type 1} → statement M
-filled-spec = tie.close (tie.spec add-result sub-result returns returns-2)
+filled-spec = tie.close (tie.spec (λ c. search needs) (λ c. search needs) returns returns-2)

@@ -7,9 +7,6 @@ use borrow.Author.Needs.{needs}
 use Rattle.ring.proofs.number.next.Statement.{statement}
 use Rattle.ring.proofs.number.next.Tie as tie
 
-add-after : tie.Need-add-after
-add-after c = search needs
-
 returns : tie.Need-returns
 returns c = sym (next-near _ _ _ (omega arith))
 
@@ -17,4 +14,4 @@ returns-2 : tie.Need-returns-2
 returns-2 c = sym (next-over _ _ _ (omega arith) (omega arith))
 
 pub next-spec : {M : Type 1} → statement M
-next-spec = tie.close (tie.spec add-after returns returns-2)
+next-spec = tie.close (tie.spec (λ c. search needs) returns returns-2)

@@ -9,73 +9,49 @@ use borrow.Author.Needs.{needs}
 use Rattle.ring.proofs.reading.judge.Statement.{statement}
 use Rattle.ring.proofs.reading.judge.Tie as tie
 
-add-whole : tie.Need-add-whole
-add-whole c = search needs
-
-mul-whole : tie.Need-mul-whole
-mul-whole c = search needs
-
-cast-whole : tie.Need-cast-whole
-cast-whole c = search needs
-
-cast-padding : tie.Need-cast-padding
-cast-padding c = search needs
-
 returns : tie.Need-returns
 returns c = sym (judged-13-whole _ _ _ _ (c .if1 .taken))
 
-add-counted : tie.Need-add-counted
-add-counted c = search needs
-
 returns-2 : tie.Need-returns-2
 returns-2 c = sym (judged-13-padding _ _ _ _ (c .before .if1 .left) (c .if2 .taken))
-
-next-requires : tie.Need-next-requires
-next-requires c κs = search needs
 
 returns-3 : tie.Need-returns-3
 returns-3 c =
     ap (skipped 14) (c .before .next .ensures)
     ∙ sym (judged-14 _ _ _ _ (c .before .before .before .if1 .left) (c .before .before .if2 .left) (c .if3 .taken))
 
-sub-size : tie.Need-sub-size
-sub-size c = search needs
-
-sub-size-2 : tie.Need-sub-size-2
-sub-size-2 c = search needs
-
-size-right-requires : tie.Need-size-right-requires
-size-right-requires c κs = search needs
-
 returns-4 : tie.Need-returns-4
 returns-4 c =
     ap (skipped 3) (c .before .before .before .next .ensures)
     ∙ sym
-    (judged-3 _ _ _ _ (c .before .before .before .before .before .if1 .left) (c .before .before .before .before .if2 .left) (c .before .before .if3 .left)
+    (judged-3 _ _ _ _ (c .before .before .before .before .before .if1 .left)
+    (c .before .before .before .before .if2 .left) (c .before .before .if3 .left)
     (sym (c .before .size-right .ensures) ∙ not-true _ (c .if4 .taken)))
 
 returns-5 : tie.Need-returns-5
 returns-5 c =
-    ap (packet (sizeOf (c .before .before .before .before .before .before .args .header))) (c .before .before .before .next .ensures)
+    ap (packet (sizeOf (c .before .before .before .before .before .before .args .header)))
+    (c .before .before .before .next .ensures)
     ∙ sym
-    (judged-packet _ _ _ _ (c .before .before .before .before .before .if1 .left) (c .before .before .before .before .if2 .left) (c .before .before .if3 .left)
+    (judged-packet _ _ _ _ (c .before .before .before .before .before .if1 .left)
+    (c .before .before .before .before .if2 .left) (c .before .before .if3 .left)
     (sym (c .before .size-right .ensures) ∙ not-false _ (c .if4 .left)))
 
 pub judge-spec : {M : Type 1} → statement M
 judge-spec =
     tie.close
     (tie.spec
-    add-whole
-    mul-whole
-    cast-whole
-    cast-padding
+    (λ c. search needs)
+    (λ c. search needs)
+    (λ c. search needs)
+    (λ c. search needs)
     returns
-    add-counted
+    (λ c. search needs)
     returns-2
-    next-requires
+    (λ c κs. search needs)
     returns-3
-    sub-size
-    sub-size-2
-    size-right-requires
+    (λ c. search needs)
+    (λ c. search needs)
+    (λ c κs. search needs)
     returns-4
     returns-5)

@@ -4,18 +4,6 @@ use borrow.Author.Needs.{needs}
 use Rattle.ring.proofs.reading.read.Statement.{statement}
 use Rattle.ring.proofs.reading.read.Tie as tie
 
-state-requires : tie.Need-state-requires
-state-requires c κs = search needs
-
-may-read-requires : tie.Need-may-read-requires
-may-read-requires c κs = search needs
-
-read-up-to-requires : tie.Need-read-up-to-requires
-read-up-to-requires c κs = search needs
-
-same-length : tie.Need-same-length
-same-length c = search needs
-
 returns : tie.Need-returns
 returns c =
     let all = c .before .before in
@@ -24,4 +12,5 @@ returns c =
 
 pub read-spec : {M : Type 1} → statement M
 read-spec =
-    tie.close (tie.spec state-requires may-read-requires read-up-to-requires same-length returns)
+    tie.close (tie.spec (λ c κs. search needs) (λ c κs. search needs) (λ c κs. search needs)
+    (λ c. search needs) returns)

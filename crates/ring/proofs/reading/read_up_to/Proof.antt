@@ -18,26 +18,35 @@ use Rattle.ring.proofs.reading.read_up_to.Tie as tie
 
 module _ (most : ℕ) (ring : List ℕ) (configured : ℕ) (readable : Bool) (read write : ℕ) (out : List ℕ) where
   -- answer and output, from what was found
-  answer : (said : Said) (new : List ℕ) → takenOf most ring configured readable read write (length out) ≡ said → new ≡ outputOf said (turn read ring) out
+  answer : (said : Said) (new : List ℕ) → takenOf most ring configured readable read write (length out) ≡ said
+      → new ≡ outputOf said (turn read ring) out
       → left said new ≡ readOf most ring configured readable read write out
   answer said new e f =
-      let g : new ≡ outputOf (takenOf most ring configured readable read write (length out)) (turn read ring) out = f ∙ ap (λ (t : Said). outputOf t (turn read ring) out) (sym e) in
+      let g : new ≡ outputOf (takenOf most ring configured readable read write (length out)) (turn read ring) out = f
+      ∙ ap (λ (t : Said). outputOf t (turn read ring) out) (sym e) in
       λ i. left (sym e i) (g i)
 
 -- a packet was found
-found : (c : tie.After-taken) → takenOf (c .before .before .before .before .before .args .most) (c .before .before .before .before .before .args .ring .now) (c .before .before .before .before .before .args .configured) (c .before .before .before .before .before .args .readable) (c .before .before .before .before .before .args .read) (c .before .before .before .before .before .args .write) (length (c .before .before .before .before .before .args .out .now)) ≡ packet (c .taken .given .0 .0) (c .taken .given .0 .1 .0)
+found : (c : tie.After-taken) → takenOf (c .before .before .before .before .before .args .most)
+    (c .before .before .before .before .before .args .ring .now)
+    (c .before .before .before .before .before .args .configured)
+    (c .before .before .before .before .before .args .readable) (c .before .before .before .before .before .args .read)
+    (c .before .before .before .before .before .args .write)
+    (length (c .before .before .before .before .before .args .out .now))
+    ≡ packet (c .taken .given .0 .0) (c .taken .given .0 .1 .0)
 found c = sym (c .before .before .find .ensures) ∙ ap saidOf (c .taken .given .1)
 
-known : (c : tie.After-taken) → Good (c .before .before .before .before .before .args .most) (c .before .before .before .before .before .args .ring .now) (c .before .before .before .before .before .args .configured) (c .before .before .before .before .before .args .readable) (c .before .before .before .before .before .args .read) (c .before .before .before .before .before .args .write) (length (c .before .before .before .before .before .args .out .now)) (c .taken .given .0 .0) (c .taken .given .0 .1 .0)
+known : (c : tie.After-taken) → Good (c .before .before .before .before .before .args .most)
+    (c .before .before .before .before .before .args .ring .now)
+    (c .before .before .before .before .before .args .configured)
+    (c .before .before .before .before .before .args .readable) (c .before .before .before .before .before .args .read)
+    (c .before .before .before .before .before .args .write)
+    (length (c .before .before .before .before .before .args .out .now)) (c .taken .given .0 .0)
+    (c .taken .given .0 .1 .0)
 known c =
     let a = c .before .before .before .before .before .args in
-    good (a .most) (a .ring .now) (a .configured) (a .readable) (a .read) (a .write) (length (a .out .now)) (c .taken .given .0 .0) (c .taken .given .0 .1 .0) (found c)
-
-find-requires : tie.Need-find-requires
-find-requires c κs = search needs
-
-enum-known-taken : tie.Need-enum-known-taken
-enum-known-taken c = search needs
+    good (a .most) (a .ring .now) (a .configured) (a .readable) (a .read) (a .write) (length (a .out .now))
+    (c .taken .given .0 .0) (c .taken .given .0 .1 .0) (found c)
 
 next-requires : tie.Need-next-requires
 next-requires c κs =
@@ -49,20 +58,17 @@ copy-out-requires c κs =
     let a = c .before .before .before .before .before .before .before .before .args in
     let t = c .before .before .before in
     let g = known t in
-    let s = good-short (a .most) (a .ring .now) (a .configured) (a .readable) (a .read) (a .write) (length (a .out .now)) (t .taken .given .0 .0) (t .taken .given .0 .1 .0) g in
-    (omega (arith, c .before .next .ensures, g .set-up .same, next-below (a .configured) (a .read) 4 (omega (arith, g .set-up .size .low))), omega (arith, s), omega (arith, g .room, g .header .largest))
-
-enum-told : tie.Need-enum-told
-enum-told c = search needs
-
-enum-known-taken-2 : tie.Need-enum-known-taken-2
-enum-known-taken-2 c = search needs
-
-enum-known-taken-3 : tie.Need-enum-known-taken-3
-enum-known-taken-3 c = search needs
-
-same-length : tie.Need-same-length
-same-length c = search needs
+    let s = good-short (a .most) (a .ring .now) (a .configured) (a .readable) (a .read) (a .write)
+    (length (a .out .now)) (t .taken .given .0 .0) (t .taken .given .0 .1 .0) g in (
+      omega (
+        arith,
+        c .before .next .ensures,
+        g .set-up .same,
+        next-below (a .configured) (a .read) 4 (omega (arith, g .set-up .size .low)),
+      ),
+      omega (arith, s),
+      omega (arith, g .room, g .header .largest),
+    )
 
 returns : tie.Need-returns
 returns c =
@@ -71,30 +77,37 @@ returns c =
     let size = t .taken .given .0 .0 in
     answer (a .most) (a .ring .now) (a .configured) (a .readable) (a .read) (a .write) (a .out .now) _ _ (found t)
     (c .before .before .copy-out .ensures
-    ∙ ap (λ (p : ℕ). fronted (a .out .now) (take size (turn p (a .ring .now)))) (c .before .before .before .before .next .ensures)
-    ∙ ap (fronted (a .out .now)) (good-packet (a .most) (a .ring .now) (a .configured) (a .readable) (a .read) (a .write) (length (a .out .now)) size (t .taken .given .0 .1 .0) (known t)))
+    ∙ ap (λ (p : ℕ). fronted (a .out .now) (take size (turn p (a .ring .now))))
+    (c .before .before .before .before .next .ensures)
+    ∙ ap (fronted (a .out .now)) (good-packet (a .most) (a .ring .now) (a .configured) (a .readable) (a .read)
+    (a .write) (length (a .out .now)) size (t .taken .given .0 .1 .0) (known t)))
 
 returns-2 : tie.Need-returns-2
-returns-2 c = answer _ _ _ _ _ _ _ _ _ (sym (c .before .before .find .ensures) ∙ ap saidOf (c .enum-told .given .1)) refl
+returns-2 c =
+    answer _ _ _ _ _ _ _ _ _ (sym (c .before .before .find .ensures) ∙ ap saidOf (c .enum-told .given .1)) refl
 
 returns-3 : tie.Need-returns-3
-returns-3 c = answer _ _ _ _ _ _ _ _ _ (sym (c .before .before .before .find .ensures) ∙ ap saidOf (c .before .taken2 .given .1)) refl
+returns-3 c =
+    answer _ _ _ _ _ _ _ _ _ (sym (c .before .before .before .find .ensures) ∙ ap saidOf (c .before .taken2 .given .1))
+    refl
 
 returns-4 : tie.Need-returns-4
-returns-4 c = answer _ _ _ _ _ _ _ _ _ (sym (c .before .before .before .find .ensures) ∙ ap saidOf (c .before .taken3 .given .1)) refl
+returns-4 c =
+    answer _ _ _ _ _ _ _ _ _ (sym (c .before .before .before .find .ensures) ∙ ap saidOf (c .before .taken3 .given .1))
+    refl
 
 pub read-up-to-spec : {M : Type 1} → statement M
 read-up-to-spec =
     tie.close
     (tie.spec
-    find-requires
-    enum-known-taken
+    (λ c κs. search needs)
+    (λ c. search needs)
     next-requires
     copy-out-requires
-    enum-told
-    enum-known-taken-2
-    enum-known-taken-3
-    same-length
+    (λ c. search needs)
+    (λ c. search needs)
+    (λ c. search needs)
+    (λ c. search needs)
     returns
     returns-2
     returns-3

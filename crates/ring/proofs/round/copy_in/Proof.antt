@@ -14,76 +14,47 @@ use borrow.Author.Needs.{needs}
 use Rattle.ring.proofs.round.copy_in.Statement.{statement}
 use Rattle.ring.proofs.round.copy_in.Tie as tie
 
-two-runs : (ring : List ℕ) (at : ℕ) (bytes : List ℕ) → at < length ring → length bytes ≤ length ring → length ring - at < length bytes
-    → laid (laid ring at (take (length ring - at - 0) (drop 0 bytes))) 0 (take (length bytes - (length ring - at)) (drop (length ring - at) bytes)) ≡ stored ring at bytes
+two-runs : (ring : List ℕ) (at : ℕ) (bytes : List ℕ) → at < length ring → length bytes ≤ length ring
+    → length ring - at < length bytes
+    → laid (laid ring at (take (length ring - at - 0) (drop 0 bytes))) 0
+    (take (length bytes - (length ring - at)) (drop (length ring - at) bytes)) ≡ stored ring at bytes
 two-runs ring at bytes h k over =
-    let rest : take (length bytes - (length ring - at)) (drop (length ring - at) bytes) ≡ drop (length ring - at) bytes = take-all (length bytes - (length ring - at)) (drop (length ring - at) bytes) (omega (arith, length-drop (length ring - at) bytes)) in
+    let rest : take (length bytes - (length ring - at)) (drop (length ring - at) bytes)
+    ≡ drop (length ring - at) bytes =
+    take-all (length bytes - (length ring - at)) (drop (length ring - at) bytes)
+    (omega (arith, length-drop (length ring - at) bytes)) in
     rw (rest, sub-zero (length ring - at)) (stored-round ring at bytes h k over)
-
-sub-straight : tie.Need-sub-straight
-sub-straight c = search needs
-
-lay-requires : tie.Need-lay-requires
-lay-requires c κs = search needs
-
-same-length : tie.Need-same-length
-same-length c = search needs
 
 returns : tie.Need-returns
 returns c =
     let a = c .before .before .before .before .before .before .before .args in
     c .before .before .lay .ensures ∙ stored-straight (a .ring .now) (a .at) (a .bytes .now) (omega arith) (omega arith)
 
-sub-lay : tie.Need-sub-lay
-sub-lay c = search needs
-
-part-lay-start : tie.Need-part-lay-start
-part-lay-start c = search needs
-
-part-lay-end : tie.Need-part-lay-end
-part-lay-end c = search needs
-
-lay-requires-2 : tie.Need-lay-requires-2
-lay-requires-2 c κs = search needs
-
-sub-lay-2 : tie.Need-sub-lay-2
-sub-lay-2 c = search needs
-
-part-lay-start-2 : tie.Need-part-lay-start-2
-part-lay-start-2 c = search needs
-
-part-lay-end-2 : tie.Need-part-lay-end-2
-part-lay-end-2 c = search needs
-
-lay-requires-3 : tie.Need-lay-requires-3
-lay-requires-3 c κs = search needs
-
-same-length-2 : tie.Need-same-length-2
-same-length-2 c = search needs
-
 returns-2 : tie.Need-returns-2
 returns-2 c =
-    let a = c .before .before .before .before .before .before .before .before .before .before .before .before .before .args in
+    let a =
+    c .before .before .before .before .before .before .before .before .before .before .before .before .before .args in
     let straight = length (a .ring .now) - a .at in
     c .before .before .lay3 .ensures
-    ∙ ap (λ (s : List ℕ). laid s 0 (take (length (a .bytes .now) - straight) (drop straight (a .bytes .now)))) (c .before .before .before .before .before .before .before .lay2 .ensures)
+    ∙ ap (λ (s : List ℕ). laid s 0 (take (length (a .bytes .now) - straight) (drop straight (a .bytes .now))))
+    (c .before .before .before .before .before .before .before .lay2 .ensures)
     ∙ two-runs (a .ring .now) (a .at) (a .bytes .now) (omega arith) (omega arith) (omega arith)
 
 pub copy-in-spec : {M : Type 1} → statement M
 copy-in-spec =
     tie.close
     (tie.spec
-    sub-straight
-    lay-requires
-    same-length
+    (λ c. search needs)
+    (λ c κs. search needs)
+    (λ c. search needs)
     returns
-    sub-lay
-    part-lay-start
-    part-lay-end
-    lay-requires-2
-    sub-lay-2
-    part-lay-start-2
-    part-lay-end-2
-    lay-requires-3
-    same-length-2
+    (λ c. search needs)
+    (λ c. search needs)
+    (λ c. search needs)
+    (λ c κs. search needs)
+    (λ c. search needs)
+    (λ c. search needs)
+    (λ c. search needs)
+    (λ c κs. search needs)
+    (λ c. search needs)
     returns-2)

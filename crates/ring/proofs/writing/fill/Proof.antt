@@ -28,90 +28,92 @@ zeros-front (suc (suc zero)) h = refl
 zeros-front (suc (suc (suc zero))) h = refl
 zeros-front (suc (suc (suc (suc n)))) h = absurd (omega arith)
 
-module _ (ring packet : List ℕ) (p : ℕ) (straight : p + 4 ≤ length ring) (fits : wholeFor (length packet) ≤ length ring) where
-  all : stored (stored (laid ring p (wordBytes highFirst (headerFor (length packet)))) (nextOf (length ring) p 4) packet) (nextOf (length ring) p (4 + length packet)) (replicate (paddingFor (length packet)) 0) ≡ stored ring p (ringBytes packet)
+module _ (ring packet : List ℕ) (p : ℕ) (straight : p + 4 ≤ length ring)
+    (fits : wholeFor (length packet) ≤ length ring) where
+  all : stored (stored (laid ring p (wordBytes highFirst (headerFor (length packet))))
+      (nextOf (length ring) p 4) packet) (nextOf (length ring) p (4 + length packet))
+      (replicate (paddingFor (length packet)) 0) ≡ stored ring p (ringBytes packet)
   unfolding ringBytes
   all =
       let w = wordBytes highFirst (headerFor (length packet)) in
       let four : length w ≡ 4 = word-length (headerFor (length packet)) in
       let pad = replicate {A = ℕ} (paddingFor (length packet)) 0 in
       let more : length pad ≡ paddingFor (length packet) = length-replicate {A = ℕ} (paddingFor (length packet)) 0 in
-      let front : length (w ++ packet) ≡ 4 + length packet = length-append w packet ∙ ap (λ (n : ℕ). n + length packet) four in
-      ap (λ (s : List ℕ). stored (stored s (nextOf (length ring) p 4) packet) (nextOf (length ring) p (4 + length packet)) pad) (stored-straight ring p w (omega arith) (omega arith))
-      ∙ ap (λ (n : ℕ). stored (stored (stored ring p w) (nextOf (length ring) p n) packet) (nextOf (length ring) p (4 + length packet)) pad) (sym four)
-      ∙ ap (λ (s : List ℕ). stored s (nextOf (length ring) p (4 + length packet)) pad) (stored-stored ring p (omega arith) w packet (omega arith))
+      let front : length (w ++ packet) ≡ 4 + length packet = length-append w packet
+      ∙ ap (λ (n : ℕ). n + length packet) four in
+      ap (λ (s : List ℕ). stored (stored s (nextOf (length ring) p 4) packet)
+      (nextOf (length ring) p (4 + length packet)) pad) (stored-straight ring p w (omega arith) (omega arith))
+      ∙ ap (λ (n : ℕ). stored (stored (stored ring p w) (nextOf (length ring) p n) packet)
+      (nextOf (length ring) p (4 + length packet)) pad) (sym four)
+      ∙ ap (λ (s : List ℕ). stored s (nextOf (length ring) p (4 + length packet)) pad)
+      (stored-stored ring p (omega arith) w packet (omega arith))
       ∙ ap (λ (n : ℕ). stored (stored ring p (w ++ packet)) (nextOf (length ring) p n) pad) (sym front)
       ∙ stored-stored ring p (omega arith) (w ++ packet) pad (omega arith)
       ∙ ap (stored ring p) (append-assoc w packet pad)
 
-  steps : (l0 l1 l2 : List ℕ) (header padding q1 q2 : ℕ) → header ≡ headerFor (length packet) → padding ≡ paddingFor (length packet) → q1 ≡ nextOf (length ring) p 4 → q2 ≡ nextOf (length ring) p (4 + length packet)
-      → l0 ≡ laid ring p (wordBytes highFirst header) → l1 ≡ stored l0 q1 packet → l2 ≡ stored l1 q2 (take (padding - 0) zeros) → l2 ≡ stored ring p (ringBytes packet)
+  steps : (l0 l1 l2 : List ℕ) (header padding q1 q2 : ℕ) → header ≡ headerFor (length packet)
+      → padding ≡ paddingFor (length packet) → q1 ≡ nextOf (length ring) p 4
+      → q2 ≡ nextOf (length ring) p (4 + length packet)
+      → l0 ≡ laid ring p (wordBytes highFirst header) → l1 ≡ stored l0 q1 packet
+      → l2 ≡ stored l1 q2 (take (padding - 0) zeros) → l2 ≡ stored ring p (ringBytes packet)
   steps l0 l1 l2 header padding q1 q2 eh ep e1 e2 f0 f1 f2 =
-      let pad : take (padding - 0) zeros ≡ replicate (paddingFor (length packet)) 0 = ap (λ (n : ℕ). take n zeros) (sub-zero padding ∙ ep) ∙ zeros-front (paddingFor (length packet)) (omega arith) in
+      let pad : take (padding - 0) zeros ≡ replicate (paddingFor (length packet)) 0 =
+      ap (λ (n : ℕ). take n zeros) (sub-zero padding ∙ ep)
+      ∙ zeros-front (paddingFor (length packet)) (omega arith) in
       rw (f2, f1, f0, pad, eh, e1, e2) all
-
-padding-for-requires : tie.Need-padding-for-requires
-padding-for-requires c κs = search needs
-
-header-for-requires : tie.Need-header-for-requires
-header-for-requires c κs = search needs
-
-lay-header-requires : tie.Need-lay-header-requires
-lay-header-requires c κs = search needs
-
-next-requires : tie.Need-next-requires
-next-requires c κs = search needs
 
 copy-in-requires : tie.Need-copy-in-requires
 copy-in-requires c κs =
     let a = c .before .before .before .before .before .before .before .before .before .before .args in
-    let kept = c .before .before .before .before .lay-header .kept .0 in
-    (omega (arith, c .next .ensures, kept, next-below (length (a .ring .now)) (a .write) 4 (omega arith)), omega (arith, kept))
-
-add-next : tie.Need-add-next
-add-next c = search needs
-
-next-requires-2 : tie.Need-next-requires-2
-next-requires-2 c κs = search needs
-
-sub-copy-in : tie.Need-sub-copy-in
-sub-copy-in c = search needs
-
-part-copy-in-start : tie.Need-part-copy-in-start
-part-copy-in-start c = search needs
-
-part-copy-in-end : tie.Need-part-copy-in-end
-part-copy-in-end c = search needs
+    let kept = c .before .before .before .before .lay-header .kept .0 in (
+      omega (arith, c .next .ensures, kept, next-below (length (a .ring .now)) (a .write) 4 (omega arith)),
+      omega (arith, kept),
+    )
 
 copy-in-requires-2 : tie.Need-copy-in-requires-2
 copy-in-requires-2 c κs =
-    let a = c .before .before .before .before .before .before .before .before .before .before .before .before .before .before .before .before .before .args in
-    let kept = c .before .before .before .before .before .before .before .before .before .before .before .lay-header .kept .0 in
-    let again = c .before .before .before .before .before .before .copy-in .kept .0 in
-    (omega (arith, c .before .before .next2 .ensures, kept, again, next-below (length (a .ring .now)) (a .write) (4 + length (a .packet .now)) (omega arith)), omega (arith, kept, again, length-take (c .before .before .before .before .before .before .before .before .before .before .before .before .before .before .padding-for .result - 0) zeros))
-
-same-length : tie.Need-same-length
-same-length c = search needs
+    let a =
+    c .before .before .before .before .before .before .before .before .before .before .before .before .before .before .before .before .before .args in
+    let kept =
+    c .before .before .before .before .before .before .before .before .before .before .before .lay-header .kept .0 in
+    let again = c .before .before .before .before .before .before .copy-in .kept .0 in (
+      omega (
+        arith,
+        c .before .before .next2 .ensures,
+        kept,
+        again,
+        next-below (length (a .ring .now)) (a .write) (4 + length (a .packet .now)) (omega arith),
+      ),
+      omega (
+        arith,
+        kept,
+        again,
+        length-take
+            (c .before .before .before .before .before .before .before .before .before .before .before .before .before .before .padding-for .result - 0) zeros,
+      ),
+    )
 
 returns : tie.Need-returns
 returns c =
-    let a = c .before .before .before .before .before .before .before .before .before .before .before .before .before .before .before .before .before .before .before .before .args in
-    steps (a .ring .now) (a .packet .now) (a .write) (omega arith) (omega arith) _ _ _ _ _ _ _ (c .before .before .before .before .before .before .before .before .before .before .before .before .before .before .before .header-for .ensures) (c .before .before .before .before .before .before .before .before .before .before .before .before .before .before .before .before .before .padding-for .ensures) (c .before .before .before .before .before .before .before .before .before .before .next .ensures) (c .before .before .before .before .before .next2 .ensures) (c .before .before .before .before .before .before .before .before .before .before .before .before .before .before .lay-header .ensures) (c .before .before .before .before .before .before .before .before .before .copy-in .ensures) (c .before .before .copy-in2 .ensures)
+    let a =
+    c .before .before .before .before .before .before .before .before .before .before .before .before .before .before .before .before .before .before .before .before .args in
+    steps (a .ring .now) (a .packet .now) (a .write) (omega arith) (omega arith) _ _ _ _ _ _ _
+    (c .before .before .before .before .before .before .before .before .before .before .before .before .before .before .before .header-for .ensures) (c .before .before .before .before .before .before .before .before .before .before .before .before .before .before .before .before .before .padding-for .ensures) (c .before .before .before .before .before .before .before .before .before .before .next .ensures) (c .before .before .before .before .before .next2 .ensures) (c .before .before .before .before .before .before .before .before .before .before .before .before .before .before .lay-header .ensures) (c .before .before .before .before .before .before .before .before .before .copy-in .ensures) (c .before .before .copy-in2 .ensures)
 
 pub fill-spec : {M : Type 1} → statement M
 fill-spec =
     tie.close
     (tie.spec
-    padding-for-requires
-    header-for-requires
-    lay-header-requires
-    next-requires
+    (λ c κs. search needs)
+    (λ c κs. search needs)
+    (λ c κs. search needs)
+    (λ c κs. search needs)
     copy-in-requires
-    add-next
-    next-requires-2
-    sub-copy-in
-    part-copy-in-start
-    part-copy-in-end
+    (λ c. search needs)
+    (λ c κs. search needs)
+    (λ c. search needs)
+    (λ c. search needs)
+    (λ c. search needs)
     copy-in-requires-2
-    same-length
+    (λ c. search needs)
     returns)

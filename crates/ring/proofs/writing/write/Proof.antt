@@ -4,18 +4,6 @@ use borrow.Author.Needs.{needs}
 use Rattle.ring.proofs.writing.write.Statement.{statement}
 use Rattle.ring.proofs.writing.write.Tie as tie
 
-state-requires : tie.Need-state-requires
-state-requires c κs = search needs
-
-may-write-requires : tie.Need-may-write-requires
-may-write-requires c κs = search needs
-
-write-up-to-requires : tie.Need-write-up-to-requires
-write-up-to-requires c κs = search needs
-
-same-length : tie.Need-same-length
-same-length c = search needs
-
 returns : tie.Need-returns
 returns c =
     let all = c .before .before in
@@ -24,4 +12,5 @@ returns c =
 
 pub write-spec : {M : Type 1} → statement M
 write-spec =
-    tie.close (tie.spec state-requires may-write-requires write-up-to-requires same-length returns)
+    tie.close (tie.spec (λ c κs. search needs) (λ c κs. search needs) (λ c κs. search needs)
+    (λ c. search needs) returns)

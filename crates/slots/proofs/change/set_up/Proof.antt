@@ -6,18 +6,9 @@ use borrow.Author.Needs.{needs}
 use Rattle.slots.proofs.change.set_up.Statement.{statement}
 use Rattle.slots.proofs.change.set_up.Tie as tie
 
-is-endpoint-requires : tie.Need-is-endpoint-requires
-is-endpoint-requires c κs = search needs
-
-fresh-of-requires : tie.Need-fresh-of-requires
-fresh-of-requires c κs = search needs
-
 returns : tie.Need-returns
 unfolding setUpOf
 returns c = rw (sym (c .before .before .is-endpoint .ensures) ∙ c .before .if1 .taken, c .fresh-of .ensures)
-
-fresh-of-requires-2 : tie.Need-fresh-of-requires-2
-fresh-of-requires-2 c κs = search needs
 
 returns-2 : tie.Need-returns-2
 unfolding setUpOf
@@ -26,4 +17,4 @@ returns-2 c = rw (sym (c .before .before .is-endpoint .ensures) ∙ c .before .i
 pub set-up-spec : {M : Type 1} → statement M
 set-up-spec =
     tie.close
-    (tie.spec is-endpoint-requires fresh-of-requires returns fresh-of-requires-2 returns-2)
+    (tie.spec (λ c κs. search needs) (λ c κs. search needs) returns (λ c κs. search needs) returns-2)

@@ -9,15 +9,6 @@ use borrow.Author.Needs.{needs}
 use Rattle.slots.proofs.change.with_state.Statement.{statement}
 use Rattle.slots.proofs.change.with_state.Tie as tie
 
-mul-t7 : tie.Need-mul-t7
-mul-t7 c = search needs
-
-element-set-from-next : tie.Need-element-set-from-next
-element-set-from-next c = search needs
-
-returns : tie.Need-returns
-returns c = search needs
-
 returns-2 : tie.Need-returns-2
 returns-2 c =
     let slots = c .before .args .receiver .slots in
@@ -26,4 +17,4 @@ returns-2 c =
     rw (set-out slots (c .before .args .slot) (record { state = c .before .args .state }) h)
 
 pub with-state-spec : {M : Type 1} → statement M
-with-state-spec = tie.close (tie.spec mul-t7 element-set-from-next returns returns-2)
+with-state-spec = tie.close (tie.spec (λ c. search needs) (λ c. search needs) (λ c. search needs) returns-2)

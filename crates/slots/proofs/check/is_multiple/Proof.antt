@@ -10,12 +10,9 @@ returns : tie.Need-returns
 unfolding multiple
 returns c = rw (lt-leb _ _ (c .if1 .taken))
 
-rem-result : tie.Need-rem-result
-rem-result c = search needs
-
 returns-2 : tie.Need-returns-2
 unfolding multiple
 returns-2 c = rw (le-leb _ _ (c .if1 .left))
 
 pub is-multiple-spec : {M : Type 1} → statement M
-is-multiple-spec = tie.close (tie.spec returns rem-result returns-2)
+is-multiple-spec = tie.close (tie.spec returns (λ c. search needs) returns-2)

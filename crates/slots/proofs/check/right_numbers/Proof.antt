@@ -5,12 +5,9 @@ use borrow.Author.Needs.{needs}
 use Rattle.slots.proofs.check.right_numbers.Statement.{statement}
 use Rattle.slots.proofs.check.right_numbers.Tie as tie
 
-is-multiple-requires : tie.Need-is-multiple-requires
-is-multiple-requires c κs = search needs
-
 returns : tie.Need-returns
 unfolding rightNumbers
 returns c = rw (c .is-multiple .ensures)
 
 pub right-numbers-spec : {M : Type 1} → statement M
-right-numbers-spec = tie.close (tie.spec is-multiple-requires returns)
+right-numbers-spec = tie.close (tie.spec (λ c κs. search needs) returns)

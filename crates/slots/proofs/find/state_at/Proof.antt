@@ -8,18 +8,6 @@ use borrow.Author.Needs.{needs}
 use Rattle.slots.proofs.find.state_at.Statement.{statement}
 use Rattle.slots.proofs.find.state_at.Tie as tie
 
-mul-state-of : tie.Need-mul-state-of
-mul-state-of c = search needs
-
-array-copy-out-state-of : tie.Need-array-copy-out-state-of
-array-copy-out-state-of c = search needs
-
-state-of-requires : tie.Need-state-of-requires
-state-of-requires c κs = search needs
-
-returns : tie.Need-returns
-returns c = search needs
-
 returns-2 : tie.Need-returns-2
 returns-2 c =
     let slots = c .before .before .args .receiver .slots in
@@ -29,4 +17,4 @@ returns-2 c =
 
 pub state-at-spec : {M : Type 1} → statement M
 state-at-spec =
-    tie.close (tie.spec mul-state-of array-copy-out-state-of state-of-requires returns returns-2)
+    tie.close (tie.spec (λ c. search needs) (λ c. search needs) (λ c κs. search needs) (λ c. search needs) returns-2)

@@ -6,33 +6,20 @@ use lib.ListN.{getD}
 use borrow.Author.Tests.{eqb-true, eqb-false, not-true, not-false}
 use Rattle.octets.proofs.Choice.{both}
 use Rattle.mctp.specs.declared.refusal.Refusal.the-variants.{Address, Command, Count, SourceBit, Pec}
-use Rattle.smbus.proofs.Refusing.{refused-destination, refused-command, refused-count, refused-source, refused-check, passed-all}
+use Rattle.smbus.proofs.Refusing.{refused-destination, refused-command, refused-count, refused-source}
+use Rattle.smbus.proofs.Refusing.{refused-check, passed-all}
 use Rattle.smbus.proofs.Answering.{says-refused, says-good}
 use borrow.Author.Needs.{needs}
 use Rattle.smbus.proofs.reading.carried_sized.Statement.{statement}
 use Rattle.smbus.proofs.reading.carried_sized.Tie as tie
-
-shared-slice-read-destination : tie.Need-shared-slice-read-destination
-shared-slice-read-destination c = search needs
-
-shared-slice-read-command : tie.Need-shared-slice-read-command
-shared-slice-read-command c = search needs
-
-shared-slice-read-wide : tie.Need-shared-slice-read-wide
-shared-slice-read-wide c = search needs
-
-wide-requires : tie.Need-wide-requires
-wide-requires c κs = search needs
-
-shared-slice-read-sender : tie.Need-shared-slice-read-sender
-shared-slice-read-sender c = search needs
 
 -- the start, from where the four bytes are read
 abbrev start : tie.After-shared-slice-known5 → tie.Start
 start c = c .before .before .before .before .before .before
 
 -- the count as the laws have it
-abbrev four : (c : tie.After-shared-slice-known5) → c .before .wide .result + 4 ≡ getD (start c .args .frame .now) 2 0 + 4
+abbrev four : (c : tie.After-shared-slice-known5)
+    → c .before .wide .result + 4 ≡ getD (start c .args .frame .now) 2 0 + 4
 four c = ap (λ (n : ℕ). n + 4) (c .before .wide .ensures .0)
 
 returns : tie.Need-returns
@@ -45,9 +32,6 @@ returns-2 c =
     let ours = both _ _ (not-false _ (e1 .if1 .left)) in
     says-refused _ _ _ Command
     (refused-command _ _ _ (start (e1 .before) .pre) (eqb-true _ _ (ours .0)) (eqb-true _ _ (ours .1)) (c .if2 .taken))
-
-add-if3 : tie.Need-add-if3
-add-if3 c = search needs
 
 returns-3 : tie.Need-returns-3
 returns-3 c =
@@ -67,9 +51,6 @@ returns-4 c =
     says-refused _ _ _ SourceBit
     (refused-source _ _ _ (start (e1 .before) .pre) (eqb-true _ _ (ours .0)) (eqb-true _ _ (ours .1)) (e2 .if2 .left)
     (sym (four (e1 .before)) ∙ e3 .if3 .left) (c .if4 .taken))
-
-ends-right-requires : tie.Need-ends-right-requires
-ends-right-requires c κs = search needs
 
 returns-5 : tie.Need-returns-5
 returns-5 c =
@@ -99,16 +80,16 @@ pub carried-sized-spec : {M : Type 1} → statement M
 carried-sized-spec =
     tie.close
     (tie.spec
-    shared-slice-read-destination
-    shared-slice-read-command
-    shared-slice-read-wide
-    wide-requires
-    shared-slice-read-sender
+    (λ c. search needs)
+    (λ c. search needs)
+    (λ c. search needs)
+    (λ c κs. search needs)
+    (λ c. search needs)
     returns
     returns-2
-    add-if3
+    (λ c. search needs)
     returns-3
     returns-4
-    ends-right-requires
+    (λ c κs. search needs)
     returns-5
     returns-6)

@@ -12,11 +12,9 @@ use borrow.Author.Needs.{needs}
 use Rattle.smbus.proofs.reading.carried_within.Statement.{statement}
 use Rattle.smbus.proofs.reading.carried_within.Tie as tie
 
-lies-within-requires : tie.Need-lies-within-requires
-lies-within-requires c κs = search needs
-
 returns : tie.Need-returns
-returns c = says-refused _ _ _ Setup (refused-most _ _ _ (sym (c .before .lies-within .ensures) ∙ not-true _ (c .if1 .taken)))
+returns c =
+    says-refused _ _ _ Setup (refused-most _ _ _ (sym (c .before .lies-within .ensures) ∙ not-true _ (c .if1 .taken)))
 
 -- behind the first check the largest body is one
 body : (c : tie.Else1) → (64 ≤ c .before .before .before .args .most) × (c .before .before .before .args .most ≤ 246)
@@ -28,9 +26,6 @@ returns-2 c = says-refused _ _ _ Setup (refused-own _ _ _ (body (c .before) .0) 
 add-lies-within : tie.Need-add-lies-within
 add-lies-within c = omega (arith, body (c .before))
 
-lies-within-requires-2 : tie.Need-lies-within-requires-2
-lies-within-requires-2 c κs = search needs
-
 returns-3 : tie.Need-returns-3
 returns-3 c =
     says-refused _ _ _ Size
@@ -41,20 +36,23 @@ carried-sized-requires : tie.Need-carried-sized-requires
 carried-sized-requires c κs =
     let size = within-bounds 10 _ _ (sym (c .before .lies-within2 .ensures) ∙ not-false _ (c .if3 .left)) in
     let most = body (c .before .before .before) in
-    record { least = most .0; largest = most .1; address = c .before .before .if2 .left; short = size .0; long = size .1 }
-
-returns-4 : tie.Need-returns-4
-returns-4 c = search needs
+    record {
+      least = most .0;
+      largest = most .1;
+      address = c .before .before .if2 .left;
+      short = size .0;
+      long = size .1;
+    }
 
 pub carried-within-spec : {M : Type 1} → statement M
 carried-within-spec =
     tie.close
     (tie.spec
-    lies-within-requires
+    (λ c κs. search needs)
     returns
     returns-2
     add-lies-within
-    lies-within-requires-2
+    (λ c κs. search needs)
     returns-3
     carried-sized-requires
-    returns-4)
+    (λ c. search needs))

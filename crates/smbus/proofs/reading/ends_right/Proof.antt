@@ -12,24 +12,6 @@ use borrow.Author.Needs.{needs}
 use Rattle.smbus.proofs.reading.ends_right.Statement.{statement}
 use Rattle.smbus.proofs.reading.ends_right.Tie as tie
 
-sub-end : tie.Need-sub-end
-sub-end c = search needs
-
-shared-slice-read-result : tie.Need-shared-slice-read-result
-shared-slice-read-result c = search needs
-
-sub-pec : tie.Need-sub-pec
-sub-pec c = search needs
-
-part-pec-start : tie.Need-part-pec-start
-part-pec-start c = search needs
-
-part-pec-end : tie.Need-part-pec-end
-part-pec-end c = search needs
-
-pec-requires : tie.Need-pec-requires
-pec-requires c κs = search needs
-
 abbrev frame : tie.After-pec → List ℕ
 frame c = c .before .before .before .before .args .frame .now
 
@@ -43,10 +25,10 @@ pub ends-right-spec : {M : Type 1} → statement M
 ends-right-spec =
     tie.close
     (tie.spec
-    sub-end
-    shared-slice-read-result
-    sub-pec
-    part-pec-start
-    part-pec-end
-    pec-requires
+    (λ c. search needs)
+    (λ c. search needs)
+    (λ c. search needs)
+    (λ c. search needs)
+    (λ c. search needs)
+    (λ c κs. search needs)
     returns)

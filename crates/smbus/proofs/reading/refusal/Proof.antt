@@ -6,26 +6,15 @@ use borrow.Author.Needs.{needs}
 use Rattle.smbus.proofs.reading.refusal.Statement.{statement}
 use Rattle.smbus.proofs.reading.refusal.Tie as tie
 
-carried-requires : tie.Need-carried-requires
-carried-requires c κs = search needs
-
-enum-told : tie.Need-enum-told
-enum-told c = search needs
-
-enum-known-found : tie.Need-enum-known-found
-enum-known-found c = search needs
-
-number-requires : tie.Need-number-requires
-number-requires c κs = search needs
-
 returns : tie.Need-returns
 returns c = sym (told-good _ _ _ _ (c .before .before .carried .ensures) _ (c .enum-told .given .1))
 
 returns-2 : tie.Need-returns-2
 returns-2 c =
-    c .number .ensures ∙ sym (told-number _ _ _ _ (c .before .before .before .before .carried .ensures) _ (c .before .before .found .given .1))
+    c .number .ensures ∙ sym (told-number _ _ _ _ (c .before .before .before .before .carried .ensures) _
+    (c .before .before .found .given .1))
 
 pub refusal-spec : {M : Type 1} → statement M
 refusal-spec =
     tie.close
-    (tie.spec carried-requires enum-told enum-known-found number-requires returns returns-2)
+    (tie.spec (λ c κs. search needs) (λ c. search needs) (λ c. search needs) (λ c κs. search needs) returns returns-2)

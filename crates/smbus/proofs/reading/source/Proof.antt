@@ -6,15 +6,6 @@ use borrow.Author.Needs.{needs}
 use Rattle.smbus.proofs.reading.source.Statement.{statement}
 use Rattle.smbus.proofs.reading.source.Tie as tie
 
-carried-requires : tie.Need-carried-requires
-carried-requires c κs = search needs
-
-enum-known-found : tie.Need-enum-known-found
-enum-known-found c = search needs
-
-enum-told : tie.Need-enum-told
-enum-told c = search needs
-
 returns : tie.Need-returns
 returns c = sym (told-source _ _ _ _ (c .before .before .before .carried .ensures) _ (c .before .found .given .1))
 
@@ -22,4 +13,4 @@ returns-2 : tie.Need-returns-2
 returns-2 c = sym (told-no-source _ _ _ _ (c .before .before .carried .ensures) _ (c .enum-told .given .1))
 
 pub source-spec : {M : Type 1} → statement M
-source-spec = tie.close (tie.spec carried-requires enum-known-found enum-told returns returns-2)
+source-spec = tie.close (tie.spec (λ c κs. search needs) (λ c. search needs) (λ c. search needs) returns returns-2)

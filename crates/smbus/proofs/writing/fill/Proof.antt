@@ -1,4 +1,5 @@
--- `smbus::writing::fill` meets its contract: the stores and the copy lay the head and the packet, and the last store their PEC.
+-- `smbus::writing::fill` meets its contract: the stores and the copy lay the head and the packet, and the last store
+-- their PEC.
 -- Assumes nothing.
 use mathlib.Core.List.{List}
 use Prim.Native.Nat.{ℕ, _+_, _-_, _≤_}
@@ -14,44 +15,14 @@ use borrow.Author.Needs.{needs}
 use Rattle.smbus.proofs.writing.fill.Statement.{statement}
 use Rattle.smbus.proofs.writing.fill.Tie as tie
 
-mul-out : tie.Need-mul-out
-mul-out c = search needs
-
-slice-write-out : tie.Need-slice-write-out
-slice-write-out c = search needs
-
 slice-write-out-2 : tie.Need-slice-write-out-2
 slice-write-out-2 c = simp length-set (omega arith)
-
-add-out : tie.Need-add-out
-add-out c = search needs
-
-cast-out : tie.Need-cast-out
-cast-out c = search needs
 
 slice-write-out-3 : tie.Need-slice-write-out-3
 slice-write-out-3 c = simp length-set (omega arith)
 
-mul-out-2 : tie.Need-mul-out-2
-mul-out-2 c = search needs
-
-add-out-2 : tie.Need-add-out-2
-add-out-2 c = search needs
-
 slice-write-out-4 : tie.Need-slice-write-out-4
 slice-write-out-4 c = simp length-set (omega arith)
-
-lay-requires : tie.Need-lay-requires
-lay-requires c κs = search needs
-
-add-end : tie.Need-add-end
-add-end c = search needs
-
-sub-pec : tie.Need-sub-pec
-sub-pec c = search needs
-
-part-pec-start : tie.Need-part-pec-start
-part-pec-start c = search needs
 
 -- what stands in the output once the packet is copied
 module _ (c : tie.After-lay) where
@@ -62,7 +33,9 @@ module _ (c : tie.After-lay) where
   packet = c .before .before .before .before .args .packet .now
 
   abbrev covered : List ℕ
-  covered = coveredOf (c .before .before .before .before .args .destination) (c .before .before .before .before .args .source) packet
+  covered =
+      coveredOf (c .before .before .before .before .args .destination)
+      (c .before .before .before .before .args .source) packet
 
   room : 5 + length packet ≤ length out
   room = omega arith
@@ -76,11 +49,9 @@ module _ (c : tie.After-lay) where
 part-pec-end : tie.Need-part-pec-end
 part-pec-end c = omega (arith, kept (c .before .before .before))
 
-pec-requires : tie.Need-pec-requires
-pec-requires c κs = search needs
-
 slice-write-out-5 : tie.Need-slice-write-out-5
-slice-write-out-5 c = omega (arith, kept (c .before .before .before .before .before), room (c .before .before .before .before .before))
+slice-write-out-5 c =
+    omega (arith, kept (c .before .before .before .before .before), room (c .before .before .before .before .before))
 
 same-length : tie.Need-same-length
 same-length c = simp length-set (kept (c .before .before .before .before .before))
@@ -89,7 +60,8 @@ returns : tie.Need-returns
 returns c =
     let l = c .before .before .before .before .before in
     let check : c .pec .result ≡ pecOf (covered l) =
-    c .pec .ensures ∙ ap pecOf (ap (take (4 + length (packet l) - 0)) (copied l) ∙ covered-front _ _ (packet l) (out l) (room l)) in
+    c .pec .ensures ∙ ap pecOf (ap (take (4 + length (packet l) - 0)) (copied l)
+    ∙ covered-front _ _ (packet l) (out l) (room l)) in
     ap (λ (b : ℕ). set (l .lay .last .0) (4 + length (packet l)) b) check
     ∙ ap (λ (o : List ℕ). set o (4 + length (packet l)) (pecOf (covered l))) (copied l)
     ∙ frame-laid _ _ (packet l) (out l) (room l)
@@ -98,21 +70,21 @@ pub fill-spec : {M : Type 1} → statement M
 fill-spec =
     tie.close
     (tie.spec
-    mul-out
-    slice-write-out
+    (λ c. search needs)
+    (λ c. search needs)
     slice-write-out-2
-    add-out
-    cast-out
+    (λ c. search needs)
+    (λ c. search needs)
     slice-write-out-3
-    mul-out-2
-    add-out-2
+    (λ c. search needs)
+    (λ c. search needs)
     slice-write-out-4
-    lay-requires
-    add-end
-    sub-pec
-    part-pec-start
+    (λ c κs. search needs)
+    (λ c. search needs)
+    (λ c. search needs)
+    (λ c. search needs)
     part-pec-end
-    pec-requires
+    (λ c κs. search needs)
     slice-write-out-5
     same-length
     returns)

@@ -8,45 +8,37 @@ use borrow.Author.Needs.{needs}
 use Rattle.smbus.proofs.writing.write_within.Statement.{statement}
 use Rattle.smbus.proofs.writing.write_within.Tie as tie
 
-answer-for-requires : tie.Need-answer-for-requires
-answer-for-requires c κs = search needs
-
-enum-known-answer : tie.Need-enum-known-answer
-enum-known-answer c = search needs
-
 fill-requires : tie.Need-fill-requires
 fill-requires c κs =
-    let f = fits _ _ _ _ _ (told-written _ _ _ _ _ _ (c .before .before .before .before .answer-for .ensures) _ (c .before .before .answer .given .1)) in
+    let f = fits _ _ _ _ _ (told-written _ _ _ _ _ _ (c .before .before .before .before .answer-for .ensures) _
+    (c .before .before .answer .given .1)) in
     (f .to, f .by, omega arith, f .space)
-
-enum-known-answer-2 : tie.Need-enum-known-answer-2
-enum-known-answer-2 c = search needs
-
-same-length : tie.Need-same-length
-same-length c = search needs
 
 returns : tie.Need-returns
 returns c =
     let a = c .before .before .before .before .before in (
       sym (ap saysWritten (a .answer .given .1)) ∙ a .before .before .answer-for .ensures,
-      c .before .before .fill .ensures ∙ sym (output-written _ _ _ _ _ (told-written _ _ _ _ _ _ (a .before .before .answer-for .ensures) _ (a .answer .given .1))),
+      c .before .before .fill .ensures
+          ∙ sym (output-written _ _ _ _ _
+          (told-written _ _ _ _ _ _ (a .before .before .answer-for .ensures) _ (a .answer .given .1))),
     )
 
 returns-2 : tie.Need-returns-2
 returns-2 c =
     let a = c .before in (
       sym (ap saysWritten (a .answer2 .given .1)) ∙ a .before .before .answer-for .ensures,
-      sym (output-unwritten _ _ _ _ _ (told-unwritten _ _ _ _ _ _ (a .before .before .answer-for .ensures) _ (a .answer2 .given .1))),
+      sym (output-unwritten _ _ _ _ _
+          (told-unwritten _ _ _ _ _ _ (a .before .before .answer-for .ensures) _ (a .answer2 .given .1))),
     )
 
 pub write-within-spec : {M : Type 1} → statement M
 write-within-spec =
     tie.close
     (tie.spec
-    answer-for-requires
-    enum-known-answer
+    (λ c κs. search needs)
+    (λ c. search needs)
     fill-requires
-    enum-known-answer-2
-    same-length
+    (λ c. search needs)
+    (λ c. search needs)
     returns
     returns-2)

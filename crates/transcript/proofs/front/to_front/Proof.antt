@@ -1,4 +1,5 @@
--- `transcript::front::to_front` meets its contract. The loop's invariant: the first bytes of the part stand at the front.
+-- `transcript::front::to_front` meets its contract. The loop's invariant: the first bytes of the part stand at the
+-- front.
 -- Assumes nothing.
 use mathlib.Core.Path.{_≡_, refl, _∙_}
 use Prim.Native.Nat.{_-_, _≤_}
@@ -61,8 +62,11 @@ same-length c = c .before .loop .inv .2
 returns-2 : tie.Need-returns-2 Inv-loop μ-loop
 returns-2 c =
     let a = c .before .before .before .before .before .args in
-    let l = c .before .loop in
-    (omega (arith, between-size (a .bytes .now) (a .from) (a .end)), l .inv .1 ∙ moved-all (a .bytes .now) (a .from) (a .end) (l .i) (omega arith))
+    let l = c .before .loop in (
+      omega (arith, between-size (a .bytes .now) (a .from) (a .end)),
+      l .inv .1
+          ∙ moved-all (a .bytes .now) (a .from) (a .end) (l .i) (omega arith),
+    )
 
 pub to-front-spec : {M : Type 1} → statement M
 to-front-spec =

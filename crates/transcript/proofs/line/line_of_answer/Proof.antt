@@ -4,18 +4,6 @@ use borrow.Author.Needs.{needs}
 use Rattle.transcript.proofs.line.line_of_answer.Statement.{statement}
 use Rattle.transcript.proofs.line.line_of_answer.Tie as tie
 
-enum-known-answer : tie.Need-enum-known-answer
-enum-known-answer c = search needs
-
-number-requires : tie.Need-number-requires
-number-requires c κs = search needs
-
-enum-known-answer-2 : tie.Need-enum-known-answer-2
-enum-known-answer-2 c = search needs
-
-enum-known-answer-3 : tie.Need-enum-known-answer-3
-enum-known-answer-3 c = search needs
-
 returns : tie.Need-returns
 returns c = rw (c .before .before .answer .given .1, c .number .ensures)
 
@@ -29,10 +17,10 @@ pub line-of-answer-spec : {M : Type 1} → statement M
 line-of-answer-spec =
     tie.close
     (tie.spec
-    enum-known-answer
-    number-requires
-    enum-known-answer-2
-    enum-known-answer-3
+    (λ c. search needs)
+    (λ c κs. search needs)
+    (λ c. search needs)
+    (λ c. search needs)
     returns
     returns-2
     returns-3)

@@ -6,12 +6,9 @@ use borrow.Author.Needs.{needs}
 use Rattle.transcript.proofs.state.set_up.Statement.{statement}
 use Rattle.transcript.proofs.state.set_up.Tie as tie
 
-set-up-requires : tie.Need-set-up-requires
-set-up-requires c κs = search needs
-
 returns : tie.Need-returns
 unfolding setUpOf
 returns c = rw (ap (λ (k : Kept). k .receiver) (c .before .set-up .ensures))
 
 pub set-up-spec : {M : Type 1} → statement M
-set-up-spec = tie.close (tie.spec set-up-requires returns)
+set-up-spec = tie.close (tie.spec (λ c κs. search needs) returns)

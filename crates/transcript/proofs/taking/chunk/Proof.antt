@@ -1,5 +1,5 @@
--- `transcript::taking::chunk` meets its contract. The loop's invariant: what is to come from the places reached is the whole chunk.
--- The measure is what is left of the input. Assumes nothing.
+-- `transcript::taking::chunk` meets its contract. The loop's invariant: what is to come from the places reached is the
+-- whole chunk. The measure is what is left of the input. Assumes nothing.
 use Rattle.transcript.proofs.Places.{no-whole}
 use Rattle.transcript.proofs.Parts.{part-none, part-full, onward, onward-start, onward-done, stands, gone-on}
 use mathlib.Core.Path.{refl, _≡_, sym, _∙_}
@@ -14,18 +14,22 @@ use Rattle.transcript.proofs.taking.chunk.Tie as tie
 
 abbrev Inv-loop : tie.InvT-loop
 Inv-loop memory₀ input output₀ state₀ read₀ written₀ memory output state read written =
-    (written ≤ length output) × (length output ≡ length output₀) × (length memory ≡ length memory₀) × (onward input state memory output read written ≡ chunkOf state₀ memory₀ input output₀)
+    (written ≤ length output) × (length output ≡ length output₀) × (length memory ≡ length memory₀)
+    × (onward input state memory output read written ≡ chunkOf state₀ memory₀ input output₀)
 
 abbrev μ-loop : tie.MeasureT-loop
 μ-loop memory₀ input output₀ state₀ read₀ written₀ memory output state read written = length input - read
 
 -- the record found
 standing : (c : tie.After-known-told Inv-loop μ-loop)
-    → Stands (c .before .before .before .before .before .before .before .before .before .args .input .now) (c .before .before .before .before .before .loop .read) (c .before .next .given .0 .0) (c .before .next .given .0 .1 .0)
+    → Stands (c .before .before .before .before .before .before .before .before .before .args .input .now)
+    (c .before .before .before .before .before .loop .read) (c .before .next .given .0 .0)
+    (c .before .next .given .0 .1 .0)
 standing c =
     let l = c .before .before .before .before .before .loop in
     let input = c .before .before .before .before .before .before .before .before .before .args .input .now in
-    stands input (l .state) (l .memory) (l .output) (l .read) (l .written) _ _ (sym (c .before .before .before .record-at .ensures) ∙ c .before .next .given .1) (omega arith)
+    stands input (l .state) (l .memory) (l .output) (l .read) (l .written) _ _
+    (sym (c .before .before .before .record-at .ensures) ∙ c .before .next .given .1) (omega arith)
 
 loop-holds : tie.Need-loop-holds Inv-loop μ-loop
 loop-holds c = (omega arith, refl, refl, onward-start _ _ _ _)
@@ -55,7 +59,12 @@ frame-line-requires : tie.Need-frame-line-requires Inv-loop μ-loop
 frame-line-requires c κs = tt
 
 loop-less : tie.Need-loop-less Inv-loop μ-loop
-loop-less c = omega (arith, standing (c .before .before .before .before .before .before .before .before .before) .inside, standing (c .before .before .before .before .before .before .before .before .before) .follows)
+loop-less c =
+    omega (
+      arith,
+      standing (c .before .before .before .before .before .before .before .before .before) .inside,
+      standing (c .before .before .before .before .before .before .before .before .before) .follows,
+    )
 
 loop-again : tie.Need-loop-again Inv-loop μ-loop
 loop-again c =
@@ -63,7 +72,9 @@ loop-again c =
     let l = found .before .before .before .before .before .loop in
     let input = found .before .before .before .before .before .before .before .before .before .args .input .now in
     let call = c .before .before .before .before .before .frame-line in
-    let on = gone-on input (l .state) (l .memory) (l .output) (l .read) (l .written) _ _ (sym (found .before .before .before .record-at .ensures) ∙ found .before .next .given .1) (omega arith) (call .ensures) in
+    let on = gone-on input (l .state) (l .memory) (l .output) (l .read) (l .written) _ _
+    (sym (found .before .before .before .record-at .ensures) ∙ found .before .next .given .1) (omega arith)
+    (call .ensures) in
     (on .0, on .1 ∙ l .inv .1, call .kept .1 .0 ∙ l .inv .2, on .2 ∙ l .inv .3)
 
 same-length : tie.Need-same-length Inv-loop μ-loop
@@ -88,7 +99,8 @@ returns-2 c =
     let l = c .before .before .before .loop in
     let a = c .before .before .before .before .before .before .before .args in
     let none = no-whole (a .input .now) (l .read) _ (c .match .keys2) (sym (c .before .record-at .ensures)) in
-    sym (onward-done (a .input .now) (l .state) (l .memory) (l .output) (l .read) (l .written) (rw none (part-none (l .state) (l .memory) _))) ∙ l .inv .3
+    sym (onward-done (a .input .now) (l .state) (l .memory) (l .output) (l .read) (l .written)
+    (rw none (part-none (l .state) (l .memory) _))) ∙ l .inv .3
 
 pub chunk-spec : {M : Type 1} → statement M
 chunk-spec =

@@ -8,25 +8,11 @@ use borrow.Author.Needs.{needs}
 use Rattle.window.proofs.part.cut.Statement.{statement}
 use Rattle.window.proofs.part.cut.Tie as tie
 
-place-in-requires : tie.Need-place-in-requires
-place-in-requires c κs = search needs
-
-cast-from : tie.Need-cast-from
-cast-from c = search needs
-
-end-requires : tie.Need-end-requires
-end-requires c κs = search needs
-
-sub-result : tie.Need-sub-result
-sub-result c = search needs
-
-part-result-start : tie.Need-part-result-start
-part-result-start c = search needs
-
 part-result-end : tie.Need-part-result-end
 part-result-end c =
     let a = c .before .before .before .before .args in
-    let fits : c .end .result ≤ length (a .window .now) = rw (c .end .ensures, c .before .before .place-in .ensures) (place-fits _ (a .c) (a .which)) in
+    let fits : c .end .result ≤ length (a .window .now) =
+    rw (c .end .ensures, c .before .before .place-in .ensures) (place-fits _ (a .c) (a .which)) in
     search needs
 
 returns : tie.Need-returns
@@ -37,10 +23,10 @@ pub cut-spec : {M : Type 1} → statement M
 cut-spec =
     tie.close
     (tie.spec
-    place-in-requires
-    cast-from
-    end-requires
-    sub-result
-    part-result-start
+    (λ c κs. search needs)
+    (λ c. search needs)
+    (λ c κs. search needs)
+    (λ c. search needs)
+    (λ c. search needs)
     part-result-end
     returns)

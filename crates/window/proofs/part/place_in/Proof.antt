@@ -6,12 +6,6 @@ use borrow.Author.Needs.{needs}
 use Rattle.window.proofs.part.place_in.Statement.{statement}
 use Rattle.window.proofs.part.place_in.Tie as tie
 
-is-allowed-requires : tie.Need-is-allowed-requires
-is-allowed-requires c κs = search needs
-
-part-place-requires : tie.Need-part-place-requires
-part-place-requires c κs = search needs
-
 returns : tie.Need-returns
 unfolding placeIn
 returns c = rw (sym (c .before .before .is-allowed .ensures) ∙ c .before .if1 .taken, c .part-place .ensures)
@@ -21,4 +15,4 @@ unfolding placeIn
 returns-2 c = rw (sym (c .before .is-allowed .ensures) ∙ c .if1 .left)
 
 pub place-in-spec : {M : Type 1} → statement M
-place-in-spec = tie.close (tie.spec is-allowed-requires part-place-requires returns returns-2)
+place-in-spec = tie.close (tie.spec (λ c κs. search needs) (λ c κs. search needs) returns returns-2)

@@ -6,9 +6,6 @@ use borrow.Author.Needs.{needs}
 use Rattle.window.proofs.part.refusal.Statement.{statement}
 use Rattle.window.proofs.part.refusal.Tie as tie
 
-is-allowed-requires : tie.Need-is-allowed-requires
-is-allowed-requires c κs = search needs
-
 returns : tie.Need-returns
 unfolding setupOf
 returns c = rw (sym (c .before .is-allowed .ensures) ∙ c .if1 .taken)
@@ -18,4 +15,4 @@ unfolding setupOf
 returns-2 c = rw (sym (c .before .is-allowed .ensures) ∙ c .if1 .left)
 
 pub refusal-spec : {M : Type 1} → statement M
-refusal-spec = tie.close (tie.spec is-allowed-requires returns returns-2)
+refusal-spec = tie.close (tie.spec (λ c κs. search needs) returns returns-2)

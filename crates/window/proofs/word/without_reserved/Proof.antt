@@ -5,12 +5,9 @@ use borrow.Author.Needs.{needs}
 use Rattle.window.proofs.word.without_reserved.Statement.{statement}
 use Rattle.window.proofs.word.without_reserved.Tie as tie
 
-has-up-requires : tie.Need-has-up-requires
-has-up-requires c κs = search needs
-
 returns : tie.Need-returns
 unfolding cleared
 returns c = rw (c .before .has-up .ensures)
 
 pub without-reserved-spec : {M : Type 1} → statement M
-without-reserved-spec = tie.close (tie.spec has-up-requires returns)
+without-reserved-spec = tie.close (tie.spec (λ c κs. search needs) returns)
