@@ -11,7 +11,7 @@ use Rattle.octets.proofs.Choice.{passed}
 use Rattle.mctp.specs.declared.refusal.Refusal.{Refusal}
 use Rattle.mctp.specs.Refusals.{numberOf}
 use Rattle.mctp.specs.Eid.{endpointEid}
-use Rattle.mctp.specs.Packet.{packetSize, versionOf, destinationOf, sourceOf}
+use Rattle.mctp.specs.Packet.{sizeRight, versionOf, destinationOf, sourceOf}
 use Rattle.mctp.proofs.Refusals.{number-positive}
 use Rattle.slots.specs.declared.state.Setup.{Setup}
 use Rattle.slots.specs.declared.state.Receiver.{Receiver}
@@ -26,7 +26,7 @@ pub record SetupGood (most : ℕ) (r : Receiver) (size : ℕ) : Type 0 where
   pub memory : size ≡ 4096
 
 pub record PacketGood (most : ℕ) (s : Setup) (p : List ℕ) : Type 0 where
-  pub size : packetSize most (length p) ≡ true
+  pub size : sizeRight most (length p) ≡ true
   pub version : versionOf p ≡ 1
   pub destination : oursOf s (destinationOf p) ≡ true
 

@@ -16,7 +16,7 @@ use Rattle.octets.proofs.Choice.{within-bounds}
 use Rattle.mctp.specs.declared.packet.Key.{Key}
 use Rattle.mctp.specs.declared.packet.Header.{Header}
 use Rattle.mctp.specs.Eid.{endpointEid}
-use Rattle.mctp.specs.Packet.{packetSize, bodyOf, destinationOf, sourceOf, versionOf}
+use Rattle.mctp.specs.Packet.{sizeRight, bodyOf, destinationOf, sourceOf, versionOf}
 use Rattle.mctp.specs.Key.{keyOf, headerOf}
 use Rattle.mctp.proofs.Keys.{sequence-below, tag-below}
 use Rattle.slots.specs.declared.state.Setup.{Setup}
@@ -222,7 +222,7 @@ setup-high most r size =
 packet-high : (most : ℕ) (s : Setup) (p : List ℕ) → packetRefusal most s p ≤ 19
 unfolding packetRefusal
 packet-high most s p =
-    pick-elim (λ n. n ≤ 19) (not (packetSize most (length p))) 3 _ (λ a. lit≤ tt)
+    pick-elim (λ n. n ≤ 19) (not (sizeRight most (length p))) 3 _ (λ a. lit≤ tt)
     (λ a.
     pick-elim (λ n. n ≤ 19) (not (eqb (versionOf p) 1)) 15 _ (λ b. lit≤ tt)
     (λ b. pick-elim (λ n. n ≤ 19) (not (oursOf s (destinationOf p))) 16 0 (λ c. lit≤ tt) (λ c. lit≤ tt)))

@@ -8,7 +8,7 @@ use lib.Dec.{eqb}
 use lib.ListN.{length}
 use Rattle.octets.specs.Choice.{pick}
 use Rattle.mctp.specs.Eid.{endpointEid}
-use Rattle.mctp.specs.Packet.{packetSize, versionOf, destinationOf, sourceOf}
+use Rattle.mctp.specs.Packet.{sizeRight, versionOf, destinationOf, sourceOf}
 use Rattle.slots.specs.declared.state.Setup.{Setup}
 use Rattle.slots.specs.declared.state.Receiver.{Receiver}
 use Rattle.slots.specs.Setup.{oursOf}
@@ -25,7 +25,7 @@ setupRefusal most r size =
 -- 3: size; 15: version; "16: destination is not the own EID, 0 or 255."
 unfoldable pub packetRefusal : ℕ → Setup → List ℕ → ℕ
 packetRefusal most s p =
-    pick (not (packetSize most (length p))) 3
+    pick (not (sizeRight most (length p))) 3
     (pick (not (eqb (versionOf p) 1)) 15
     (pick (not (oursOf s (destinationOf p))) 16
     0))

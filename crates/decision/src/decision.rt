@@ -1,8 +1,8 @@
 // The checks in their order, then the rules: what is to be done with a packet, before anything is changed.
 use crate::rules::Plan;
 use crate::rules::rule;
+use mctp::Outcome;
 use mctp::Refusal;
-use slots::Outcome;
 use slots::Receiver;
 use slots::Setup;
 ghost use mathlib.Core.Path.{_≡_};
@@ -10,7 +10,7 @@ ghost use Prim.Native.Nat.{_≤_};
 ghost use lib.ListN.{length};
 ghost use Rattle.mctp.specs.Packet.{bodyOf};
 ghost use Rattle.mctp.specs.Key.{headerOf};
-ghost use Rattle.slots.specs.Changes.{outcomeNumber};
+ghost use Rattle.mctp.specs.Refusals.{outcomeNumber};
 ghost use Rattle.decision.specs.Checks.{setupRefusal, packetRefusal, sourceRefusal};
 ghost use Rattle.decision.specs.Rules.{planned, ruled};
 ghost use Rattle.decision.specs.Decision.{fromSource, fromPacket, decided};

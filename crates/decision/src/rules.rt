@@ -68,7 +68,7 @@ fn on_start(receiver: Receiver, header: Header, body: u8) -> Plan
     }
 }
 
-fn is_wrong(end: bool, unit: u8, body: u8) -> bool
+fn wrong_unit(end: bool, unit: u8, body: u8) -> bool
     ensures { λ r. ⌜ r ≡ wrongUnit end unit body ⌝ }
 {
     if end { unit < body } else { body != unit }
@@ -85,7 +85,7 @@ fn gather(slot: u8, sequence: u8, unit: u8, held: u16, header: Header, body: u8)
             refusal: Refusal::Sequence,
         };
     }
-    if is_wrong(header.end, unit, body) {
+    if wrong_unit(header.end, unit, body) {
         return Plan::Release {
             slot: slot,
             refusal: Refusal::Unit,

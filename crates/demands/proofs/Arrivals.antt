@@ -12,7 +12,7 @@ use Rattle.octets.specs.Bytes.{Below, fronted}
 use Rattle.octets.specs.Words.{highFirst, wordBytes}
 use Rattle.octets.proofs.Below.{below-append, below-drop, below-zeros, below-word}
 use Rattle.octets.proofs.Choice.{within-bounds}
-use Rattle.mctp.specs.Packet.{packetSize}
+use Rattle.mctp.specs.Packet.{sizeRight}
 use Rattle.mctp.specs.Key.{keyOf}
 use Rattle.smbus.specs.Frame.{frameOf}
 use Rattle.smbus.specs.Reading as smbus
@@ -30,45 +30,45 @@ use Rattle.pcc.proofs.Back as pcc-back
 use Rattle.pcc.proofs.Bytes.{every-bytes}
 use Rattle.mmbi.specs.Interface.{stateOf, mayRead}
 use Rattle.mmbi.specs.declared.interface.Flags.{Flags}
-use Rattle.ring.specs.Numbers.{lengthRight}
-use Rattle.ring.specs.Turn.{turn, stored}
+use Rattle.mmbi.specs.Pointers.{lengthRight}
+use Rattle.ring.specs.Round.{roundFrom, stored}
 use Rattle.ring.specs.Packet.{paddingFor, headerFor, wholeFor, ringBytes}
 use Rattle.ring.specs.Runs.{arrivalRing}
 use Rattle.ring.specs.Reading as taking
 use Rattle.ring.specs.Writing as putting
-use Rattle.ring.specs.declared.reading.Taken.the-variants as case
-use Rattle.ring.proofs.Made.{turn-bytes}
+use Rattle.ring.specs.declared.answer.Carried.the-variants as case
+use Rattle.ring.proofs.Made.{round-bytes}
 use Rattle.ring.proofs.RoundTrip as ring-round
 use Rattle.slots.specs.declared.state.Receiver.{Receiver}
 use Rattle.receiver.specs.Effects.{Unchanged, SlotFreed}
 use Rattle.receiver.specs.Step.{refused, stepOf}
 use Rattle.receiver.proofs.Laws.{refused-unchanged, refused-freed}
-use Rattle.rack.specs.declared.answer.Known.{Known}
-use Rattle.rack.specs.declared.answer.Known.the-variants.{Source, Notify, Next}
-use Rattle.rack.specs.Arrivals.{Arrival, Carried, Without, packet, none, carries, smbusCarries, pccCarries, ringCarries}
+use Rattle.rack.specs.declared.answer.Beside.{Beside}
+use Rattle.rack.specs.declared.answer.Beside.the-variants.{Source, Notify, Next}
+use Rattle.rack.specs.Arrivals.{Arrival, Brought, Without, packet, none, brings, smbusBrings, pccBrings, ringBrings}
 use Rattle.rack.specs.Answers.{given, nothing, arrivedOf}
-use Rattle.rack.proofs.Carriers.{ring-carries, ring-front}
+use Rattle.rack.proofs.Carriers.{ring-brings, ring-front}
 
 module _ (most : ℕ) (r : Receiver) (m : List ℕ) where
-  pub none-leaves-all : (a : Arrival) (why : Without) → carries most a ≡ none why
-      → arrivedOf most r m (carries most a) ≡ record { told = nothing why; receiver = r; memory = m }
+  pub none-leaves-all : (a : Arrival) (why : Without) → brings most a ≡ none why
+      → arrivedOf most r m (brings most a) ≡ record { told = nothing why; receiver = r; memory = m }
   none-leaves-all a why e = ap (arrivedOf most r m) e
 
-  pub rules-refused : (known : Known) (n : ℕ) (c : Carried) → arrivedOf most r m c .told ≡ given known (refused n)
+  pub rules-refused : (beside : Beside) (n : ℕ) (c : Brought) → arrivedOf most r m c .told ≡ given beside (refused n)
       → (n ≡ 20 → ⊥) → (n ≡ 21 → ⊥) → (n ≡ 22 → ⊥)
       → Unchanged r m (arrivedOf most r m c .receiver) (arrivedOf most r m c .memory)
-  rules-refused known n (packet p k) e n20 n21 n22 = refused-unchanged most r m p n (cc) n20 n21 n22
-  rules-refused known n (none why) e n20 n21 n22 = record { setup = refl; slots = refl; memory = refl }
+  rules-refused beside n (packet p k) e n20 n21 n22 = refused-unchanged most r m p n (cc) n20 n21 n22
+  rules-refused beside n (none why) e n20 n21 n22 = record { setup = refl; slots = refl; memory = refl }
 
-  pub rules-freed : (p : List ℕ) (known : Known) (n : ℕ) (c : Carried) → c ≡ packet p known
-      → arrivedOf most r m c .told ≡ given known (refused n)
+  pub rules-freed : (p : List ℕ) (beside : Beside) (n : ℕ) (c : Brought) → c ≡ packet p beside
+      → arrivedOf most r m c .told ≡ given beside (refused n)
       → 20 ≤ n → SlotFreed (keyOf p) r m (arrivedOf most r m c .receiver) (arrivedOf most r m c .memory)
-  rules-freed p known n c is e twenty =
+  rules-freed p beside n c is e twenty =
       subst
-      (λ (d : Carried). arrivedOf most r m d .told ≡ given known (refused n)
+      (λ (d : Brought). arrivedOf most r m d .told ≡ given beside (refused n)
       → SlotFreed (keyOf p) r m (arrivedOf most r m d .receiver) (arrivedOf most r m d .memory))
       (sym is)
-      (λ (t : given known (stepOf most r m p .said) ≡ given known (refused n)). refused-freed most r m p n (cc) twenty)
+      (λ (t : given beside (stepOf most r m p .said) ≡ given beside (refused n)). refused-freed most r m p n (cc) twenty)
       e
 
 module _ (most : ℕ) where
@@ -82,14 +82,14 @@ module _ (most : ℕ) where
   -- three facts make an arrival of a frame, and of a region
   pub smbus-found : (frame : List ℕ) (own : ℕ) (p : List ℕ) (source : ℕ) → smbus.refusalOf most frame own ≡ 0
       → smbus.packetOf most frame own ≡ p
-      → smbus.sourceAddressOf most frame own ≡ source → smbusCarries most frame own ≡ packet p (Source source)
-  unfolding smbusCarries
+      → smbus.sourceAddressOf most frame own ≡ source → smbusBrings most frame own ≡ packet p (Source source)
+  unfolding smbusBrings
   smbus-found frame own p source n e a = rw (eq-eqb (smbus.refusalOf most frame own) 0 n, e, a)
 
   pub pcc-found : (region : List ℕ) (id : ℕ) (p : List ℕ) (notify : Bool) → pcc.refusalOf most region id ≡ 0
       → pcc.packetOf most region id ≡ p
-      → pcc.notifyOf most region id ≡ notify → pccCarries most region id ≡ packet p (Notify notify)
-  unfolding pccCarries
+      → pcc.notifyOf most region id ≡ notify → pccBrings most region id ≡ packet p (Notify notify)
+  unfolding pccBrings
   pcc-found region id p notify n e f = rw (eq-eqb (pcc.refusalOf most region id) 0 n, e, f)
 
   -- and a reading that leaves the packet at the output's front makes one of a ring
@@ -97,19 +97,19 @@ module _ (most : ℕ) where
       (out : List ℕ) → mayRead (stateOf flags) ≡ true
       → taking.readOf most bytes configured true read write out
       ≡ taking.left (taking.packet (length p) next) (fronted out p)
-      → ringCarries most bytes configured flags read write out ≡ packet p (Next next)
+      → ringBrings most bytes configured flags read write out ≡ packet p (Next next)
   unfolding fronted
   ring-found bytes configured flags read write p next out may e =
       let told = sym (ap (λ (b : Bool). taking.readOf most bytes configured b read write out) may ∙ e) in
       let answer = case.Packet (length p) next in
       let front = ring-front most bytes configured flags read write out (fronted out p) answer told
       (length p) next refl in
-      ring-carries most bytes configured flags read write out (fronted out p) answer told answer refl
+      ring-brings most bytes configured flags read write out (fronted out p) answer told answer refl
       ∙ ap (λ (q : List ℕ). packet q (Next next)) (sym front ∙ take-at p (drop (length p) out) (length p) refl)
 
   pub frame-back : (out p : List ℕ) (destination source : ℕ)
       → frames.writeRefusal most (length out) (length p) destination source ≡ 0
-      → smbusCarries most (take (frames.frameSize (length p)) (frames.outputOf most out p destination source))
+      → smbusBrings most (take (frames.frameSize (length p)) (frames.outputOf most out p destination source))
       destination ≡ packet p (Source source)
   frame-back out p destination source e =
       let f = fits most (length out) (length p) destination source e in
@@ -120,7 +120,7 @@ module _ (most : ℕ) where
 
   pub region-back : (region : List ℕ) (id : ℕ) (notify : Bool) (p : List ℕ)
       → regions.writeRefusal most (length region) id (length p) ≡ 0
-      → pccCarries most (regions.writtenOf most region id notify p) id ≡ packet p (Notify notify)
+      → pccBrings most (regions.writtenOf most region id notify p) id ≡ packet p (Notify notify)
   region-back region id notify p e =
       pcc-found (regions.writtenOf most region id notify p) id p notify
       (pcc-back.back-number most region id notify p e) (pcc-back.back-packet most region id notify p e)
@@ -130,7 +130,7 @@ module _ (most : ℕ) where
       (flags : Flags) (out : List ℕ)
       → putting.writeOf most bytes configured running read write p .says ≡ putting.written next
       → mayRead (stateOf flags) ≡ true → 4 + most ≤ length out
-      → ringCarries most (putting.writeOf most bytes configured running read write p .ring) configured flags write next
+      → ringBrings most (putting.writeOf most bytes configured running read write p .ring) configured flags write next
       out ≡ packet p (Next next)
   ring-back bytes configured running read write p next flags out e may room =
       ring-found (putting.writeOf most bytes configured running read write p .ring) configured flags write next p next
@@ -138,10 +138,10 @@ module _ (most : ℕ) where
       (ring-round.round-trip most bytes configured running read write p next out e room)
 
 module _ (p : List ℕ) where
-  pub every-frame : (destination source : ℕ) → Below 256 p → packetSize 64 (length p) ≡ true → destination ≤ 127
+  pub every-frame : (destination source : ℕ) → Below 256 p → sizeRight 64 (length p) ≡ true → destination ≤ 127
       → source ≤ 127
       → Below 256 (frameOf destination source p)
-      × (smbusCarries 64 (frameOf destination source p) destination ≡ packet p (Source source))
+      × (smbusBrings 64 (frameOf destination source p) destination ≡ packet p (Source source))
   every-frame destination source b sized to by =
       let bounds = within-bounds 5 68 (length p) sized in
       let least : 64 ≤ 64 = omega arith in
@@ -153,8 +153,8 @@ module _ (p : List ℕ) where
             (smbus-back.frame-source 64 destination source p least largest to (bounds .0) (bounds .1)),
       )
 
-  pub every-region : (id : ℕ) (notify : Bool) → Below 256 p → packetSize 64 (length p) ≡ true → id ≤ 255
-      → Below 256 (regionFor id notify p) × (pccCarries 64 (regionFor id notify p) id ≡ packet p (Notify notify))
+  pub every-region : (id : ℕ) (notify : Bool) → Below 256 p → sizeRight 64 (length p) ≡ true → id ≤ 255
+      → Below 256 (regionFor id notify p) × (pccBrings 64 (regionFor id notify p) id ≡ packet p (Notify notify))
   every-region id notify b sized subspace = (
     every-bytes id notify p b,
     pcc-found 64 (regionFor id notify p) id p notify (pcc-back.every-number 64 id notify p refl subspace sized)
@@ -173,15 +173,15 @@ module _ (p : List ℕ) where
   unfolding arrivalRing stored fronted
   arrival-bytes configured b =
       let zeros = replicate {A = ℕ} configured 0 in
-      let behind = drop (length (ringBytes p)) (turn 0 zeros) in
-      turn-bytes (length zeros - 0) (ringBytes p ++ behind)
+      let behind = drop (length (ringBytes p)) (roundFrom 0 zeros) in
+      round-bytes (length zeros - 0) (ringBytes p ++ behind)
       (below-append (ringBytes p) behind (ring-bytes b)
-      (below-drop (length (ringBytes p)) (turn 0 zeros) (turn-bytes 0 zeros (below-zeros configured))))
+      (below-drop (length (ringBytes p)) (roundFrom 0 zeros) (round-bytes 0 zeros (below-zeros configured))))
 
-  pub every-ring : (configured : ℕ) (flags : Flags) (out : List ℕ) → Below 256 p → packetSize 64 (length p) ≡ true
+  pub every-ring : (configured : ℕ) (flags : Flags) (out : List ℕ) → Below 256 p → sizeRight 64 (length p) ≡ true
       → lengthRight configured ≡ true → mayRead (stateOf flags) ≡ true → 68 ≤ length out
       → Below 256 (arrivalRing configured p)
-      × (ringCarries 64 (arrivalRing configured p) configured flags 0 (wholeFor (length p)) out
+      × (ringBrings 64 (arrivalRing configured p) configured flags 0 (wholeFor (length p)) out
       ≡ packet p (Next (wholeFor (length p))))
   every-ring configured flags out b sized right may room = (
     arrival-bytes configured b,

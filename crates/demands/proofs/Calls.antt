@@ -25,15 +25,15 @@ use Rattle.mmbi.proofs.transient.Reads as transient
 use Rattle.ring.specs.Writing as putting
 use Rattle.ring.proofs.write.Reads as ring-write
 use Rattle.descriptor.specs.Answers.{says}
-use Rattle.descriptor.specs.Descriptor.{outcomeOf}
+use Rattle.descriptor.specs.Descriptor.{describedOf}
 use Rattle.descriptor.proofs.read_descriptor.Reads as read-descriptor
 use Rattle.slots.specs.Changes.{keeps, setUpOf}
 use Rattle.slots.proofs.set_up.Reads as set-up
-use Rattle.window.specs.Window.{setupOf, placeIn, partOf, interfaceIn, storeRefusal, stored, storedPointer}
+use Rattle.window.specs.Window.{setupOf, placeIn, areaOf, interfaceIn, storeRefusal, stored, storedPointer}
 use Rattle.window.proofs.refusal.Reads as window-refusal
 use Rattle.window.proofs.place_of.Reads as place-of
-use Rattle.window.proofs.cut.Reads as cut
-use Rattle.window.proofs.look.Reads as look
+use Rattle.window.proofs.area.Reads as area
+use Rattle.window.proofs.interface_of.Reads as interface-of
 use Rattle.window.proofs.store.Reads as store
 use Rattle.window.proofs.store_pointer.Reads as store-pointer
 
@@ -70,15 +70,15 @@ pub pcc-write-is : (κs : Lfts 2) (a r e : _) → pcc-write.Post κs a r e
     × (e .0 .now ≡ regions.writtenOf 64 (a .0 .now) (a .1 .0) (a .1 .1 .0) (a .1 .1 .1 .0 .now))
 pcc-write-is κs a r e p = (p .0, p .1)
 
--- the ring: its bytes, the configured length, the flags, the read and the write pointer, and a packet
+-- the ring: its bytes, the configured length, the flags, the pointers, and a packet
 pub ring-write-is : (κs : Lfts 2) (a r e : _) → ring-write.Post κs a r e
     → putting.left (putting.saidOf r) (e .0 .now)
-    ≡ putting.writeOf 64 (a .0 .now) (a .1 .0) (mayWrite (stateOf (a .1 .1 .0))) (a .1 .1 .1 .0) (a .1 .1 .1 .1 .0)
-    (a .1 .1 .1 .1 .1 .0 .now)
+    ≡ putting.writeOf 64 (a .0 .now) (a .1 .0) (mayWrite (stateOf (a .1 .1 .0))) (a .1 .1 .1 .0 .read)
+    (a .1 .1 .1 .0 .write) (a .1 .1 .1 .1 .0 .now)
 ring-write-is κs a r e p = p
 
--- the window, by itself; with a configuration, and then a part, or a word's place with a word or a pointer
-pub read-descriptor-is : (κs : Lfts 1) (a r e : _) → read-descriptor.Post κs a r e → says r ≡ outcomeOf (a .0 .now)
+-- the window, by itself; with a configuration, and then an area, or a word's place with a word or a pointer
+pub read-descriptor-is : (κs : Lfts 1) (a r e : _) → read-descriptor.Post κs a r e → says r ≡ describedOf (a .0 .now)
 read-descriptor-is κs a r e p = p
 
 pub window-refusal-is : (κs : Lfts 1) (a r e : _) → window-refusal.Post κs a r e → r
@@ -89,11 +89,11 @@ pub place-of-is : (κs : Lfts 1) (a r e : _) → place-of.Post κs a r e → r
     ≡ placeIn (length (a .0 .now)) (a .1 .0) (a .1 .1 .0)
 place-of-is κs a r e p = p
 
-pub cut-is : (κs : Lfts 1) (a r e : _) → cut.Post κs a r e → now r ≡ partOf (a .0 .now) (a .1 .0) (a .1 .1 .0)
-cut-is κs a r e p = p
+pub area-is : (κs : Lfts 1) (a r e : _) → area.Post κs a r e → now r ≡ areaOf (a .0 .now) (a .1 .0) (a .1 .1 .0)
+area-is κs a r e p = p
 
-pub look-is : (κs : Lfts 1) (a r e : _) → look.Post κs a r e → r ≡ interfaceIn (a .0 .now) (a .1 .0)
-look-is κs a r e p = p
+pub interface-of-is : (κs : Lfts 1) (a r e : _) → interface-of.Post κs a r e → r ≡ interfaceIn (a .0 .now) (a .1 .0)
+interface-of-is κs a r e p = p
 
 pub store-is : (κs : Lfts 1) (a r e : _) → store.Post κs a r e
     → (r ≡ storeRefusal (length (a .0 .now)) (a .1 .0) (a .1 .1 .0) (a .1 .1 .1 .0 .pointer))

@@ -16,8 +16,8 @@ use Rattle.decision.specs.Rules.{after, onStart, gathered, onFollow, ruled}
 use Rattle.decision.specs.Decision.{fromSource, fromPacket, decided}
 use Rattle.receiver.specs.Step.{done, stepOf}
 use Rattle.messages.proofs.Counts.{three-bodies, three-bodies-message}
-use Rattle.rack.specs.declared.answer.Known.the-variants.{Source}
-use Rattle.rack.specs.Arrivals.{Carried, bySmbus, packet, carries}
+use Rattle.rack.specs.declared.answer.Beside.the-variants.{Source}
+use Rattle.rack.specs.Arrivals.{Brought, bySmbus, packet, brings}
 use Rattle.rack.specs.Answers.{given, arrivedOf}
 use Rattle.demands.specs.Presenting.{arrival}
 use Rattle.demands.specs.Numbers.{card, empty, Numbers}
@@ -29,12 +29,12 @@ unfolding stepOf decided fromPacket fromSource setupRefusal packetRefusal source
     after slotOf lowestFree firstOf headerOf keyOf sameKey rightState rightSlot rightNumbers multiple clash laid
 literal-done = refl
 
-pub literal-carried : carries 64 (bySmbus literalFrame 32) ≡ packet literalPacket (Source 17)
-literal-carried = smbus-found 64 literalFrame 32 literalPacket 17 literal-good literal-packet literal-source
+pub literal-brought : brings 64 (bySmbus literalFrame 32) ≡ packet literalPacket (Source 17)
+literal-brought = smbus-found 64 literalFrame 32 literalPacket 17 literal-good literal-packet literal-source
 
 pub literal-arrival : arrival 64 card empty (bySmbus literalFrame 32) .told ≡ given (Source 17) (done 0 1 false)
 literal-arrival =
-    ap (λ (c : Carried). arrivedOf 64 card empty c .told) literal-carried ∙ ap (given (Source 17)) literal-done
+    ap (λ (c : Brought). arrivedOf 64 card empty c .told) literal-brought ∙ ap (given (Source 17)) literal-done
 
 pub numbers : Numbers
 numbers =

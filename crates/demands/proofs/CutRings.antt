@@ -8,24 +8,24 @@ use Prim.Native.Nat.{ℕ}
 use native.Mathlib.Omega.{arith}
 use lib.ListN.{length}
 use Rattle.descriptor.specs.declared.configuration.Configuration.{Configuration}
-use Rattle.descriptor.specs.declared.configuration.Part.{Part}
-use Rattle.descriptor.specs.Configuration.{partPlace, isRing}
-use Rattle.descriptor.specs.Descriptor.{found, outcomeOf}
+use Rattle.descriptor.specs.declared.configuration.Area.{Area}
+use Rattle.descriptor.specs.Configuration.{areaPlace, isRing}
+use Rattle.descriptor.specs.Descriptor.{found, describedOf}
 use Rattle.descriptor.proofs.Refusals.{found-allowed}
-use Rattle.window.specs.Window.{partOf, RingChanged}
-use Rattle.window.proofs.Parts.{found-ring-cut}
+use Rattle.window.specs.Window.{areaOf, RingChanged}
+use Rattle.window.proofs.Areas.{found-ring-cut}
 use Rattle.window.proofs.PutBack.{put-back}
 use Rattle.ring.specs.Numbers.{setUpRight}
 use Rattle.ring.specs.Writing as putting
 use Rattle.ring.proofs.Readings.{set-up-holds}
 use Rattle.ring.proofs.RoundTrip.{written-length}
 
-pub cut-ring-right : (window : List ℕ) (c : Configuration) (part : Part) → isRing part ≡ true
-    → outcomeOf window ≡ found c
-    → setUpRight 64 (partPlace c part .length) (length (partOf window c part)) ≡ true
-cut-ring-right window c part is e =
-    let cut = found-ring-cut window c part is e in
-    set-up-holds 64 (partPlace c part .length) (length (partOf window c part))
+pub cut-ring-right : (window : List ℕ) (c : Configuration) (area : Area) → isRing area ≡ true
+    → describedOf window ≡ found c
+    → setUpRight 64 (areaPlace c area .length) (length (areaOf window c area)) ≡ true
+cut-ring-right window c area is e =
+    let cut = found-ring-cut window c area is e in
+    set-up-holds 64 (areaPlace c area .length) (length (areaOf window c area))
     (record {
       low = omega arith;
       high = omega arith;
@@ -34,13 +34,13 @@ cut-ring-right window c part is e =
     })
 
 -- the window once a ring that was lent out of it, and written to, is back
-module _ (window : List ℕ) (c : Configuration) (part : Part) (is : isRing part ≡ true) (e : outcomeOf window ≡ found c)
+module _ (window : List ℕ) (c : Configuration) (area : Area) (is : isRing area ≡ true) (e : describedOf window ≡ found c)
     (configured : ℕ) (running : Bool) (read write : ℕ) (p : List ℕ) where
   abbrev ring : List ℕ
-  ring = putting.writeOf 64 (partOf window c part) configured running read write p .ring
+  ring = putting.writeOf 64 (areaOf window c area) configured running read write p .ring
 
-  fits : length ring ≡ partPlace c part .length
-  fits = written-length 64 (partOf window c part) configured running read write p ∙ found-ring-cut window c part is e .0
+  fits : length ring ≡ areaPlace c area .length
+  fits = written-length 64 (areaOf window c area) configured running read write p ∙ found-ring-cut window c area is e .0
 
-  pub write-stays : RingChanged window c part ring
-  write-stays = put-back window c part ring is (found-allowed window c e) fits
+  pub write-stays : RingChanged window c area ring
+  write-stays = put-back window c area ring is (found-allowed window c e) fits

@@ -9,7 +9,7 @@ use lib.Dec.{lit≤}
 use lib.ListN.{length, take, replicate}
 use Rattle.octets.specs.Bytes.{Below, fronted}
 use Rattle.octets.specs.Words.{lowFirst, wordAt}
-use Rattle.mctp.specs.Packet.{packetSize, endOf}
+use Rattle.mctp.specs.Packet.{sizeRight, endOf}
 use Rattle.mctp.specs.Key.{keyOf}
 use Rattle.pec.specs.Wire.{WindowChange, OddChange}
 use Rattle.smbus.specs.Frame.{frameOf}
@@ -21,22 +21,23 @@ use Rattle.pcc.specs.Region.{regionWith, regionOf, regionFor}
 use Rattle.pcc.specs.Reading as pcc
 use Rattle.pcc.specs.Writing as regions
 use Rattle.pcc.proofs.Made.{good-front}
-use Rattle.pcc.proofs.Writing.{written-whole, written-refused}
-use Rattle.descriptor.specs.declared.configuration.Part.{Part}
+use Rattle.pcc.proofs.Writings.{written-whole, written-refused}
+use Rattle.descriptor.specs.declared.configuration.Area.{Area}
 use Rattle.descriptor.specs.declared.configuration.Configuration.{Configuration}
-use Rattle.descriptor.specs.Descriptor.{outcomeOf, found}
-use Rattle.descriptor.specs.Configuration.{isRing, partPlace}
+use Rattle.descriptor.specs.Descriptor.{describedOf, found}
+use Rattle.descriptor.specs.Configuration.{isRing, areaPlace}
 use Rattle.window.specs.declared.word.Pointer.{Pointer}
-use Rattle.window.specs.Window.{partOf, storeRefusal, stored, storedPointer, RingChanged}
+use Rattle.window.specs.Window.{areaOf, storeRefusal, stored, storedPointer, RingChanged}
 use Rattle.window.proofs.Stores.{stored-refused, pointer-refused}
 use Rattle.mmbi.specs.declared.word.Word.{Word}
 use Rattle.mmbi.specs.Interface.{normalRuntime, askedByHost, askedByController, stateOf, mayRead, mayWrite}
 use Rattle.mmbi.specs.declared.interface.Flags.{Flags}
 use Rattle.mmbi.specs.Pointers.{pointerRight}
-use Rattle.ring.specs.Numbers.{lengthRight, setUpRight, pointersRight, filledOf, nextOf}
+use Rattle.mmbi.specs.Pointers.{lengthRight}
+use Rattle.ring.specs.Numbers.{setUpRight, pointersRight, filledOf, nextOf}
 use Rattle.ring.specs.Packet.{packetOf, wholeFor, ringBytes, RingLayout}
-use Rattle.ring.specs.Turn as turning
-use Rattle.ring.specs.Turn.{turn}
+use Rattle.ring.specs.Round as rounds
+use Rattle.ring.specs.Round.{roundFrom}
 use Rattle.ring.specs.Runs.{arrivalRing, allSized, spaceFor, allBytes, queued, allReadable, readAll}
 use Rattle.ring.specs.Reading as taking
 use Rattle.ring.specs.Writing as putting
@@ -53,11 +54,11 @@ use Rattle.receiver.specs.Effects.{Unchanged, SlotFreed}
 use Rattle.receiver.specs.Step.{refused, stepOf}
 use Rattle.receiver.proofs.Laws.{refused-unchanged, refused-freed}
 use Rattle.messages.specs.Run.{give, run, runPackets}
-use Rattle.messages.specs.Message.{Item, callsOf, Starts, Train, Accepted, AcceptedAlone, slotFor}
+use Rattle.messages.specs.Message.{Item, callsOf, Starts, OneMessage, Accepted, AcceptedAlone, slotFor}
 use Rattle.messages.proofs.Acceptance.{acceptance, single-accepted}
-use Rattle.rack.specs.declared.answer.Known.{Known}
-use Rattle.rack.specs.declared.answer.Known.the-variants.{Source, Notify, Next}
-use Rattle.rack.specs.Arrivals.{Arrival, bySmbus, byPcc, byRing, Without, packet, none, carries, ringCarries}
+use Rattle.rack.specs.declared.answer.Beside.{Beside}
+use Rattle.rack.specs.declared.answer.Beside.the-variants.{Source, Notify, Next}
+use Rattle.rack.specs.Arrivals.{Arrival, bySmbus, byPcc, byRing, Without, packet, none, brings, ringBrings}
 use Rattle.rack.specs.Answers.{given, nothing}
 use Rattle.demands.specs.Presenting.{arrival, present, packetsOf}
 use Rattle.demands.proofs.Arrivals as good
@@ -73,22 +74,22 @@ use Rattle.demands.proofs.Presented.{presented}
 -- definition in its check order.
 
 -- "Lent memory is then unchanged, and so is the receiver": where the carrier refuses, skips or finds nothing
-pub without-a-packet : (r : Receiver) (m : List ℕ) (a : Arrival) (why : Without) → carries 64 a ≡ none why
+pub without-a-packet : (r : Receiver) (m : List ℕ) (a : Arrival) (why : Without) → brings 64 a ≡ none why
     → arrival 64 r m a ≡ record { told = nothing why; receiver = r; memory = m }
 without-a-packet r m a why e = good.none-leaves-all 64 r m a why e
 
 -- and where the message rules refuse, "but for the three refusals that free one slot (20, 21, 22)"
-pub refused-by-the-rules : (r : Receiver) (m : List ℕ) (a : Arrival) (known : Known) (n : ℕ)
-    → arrival 64 r m a .told ≡ given known (refused n)
+pub refused-by-the-rules : (r : Receiver) (m : List ℕ) (a : Arrival) (beside : Beside) (n : ℕ)
+    → arrival 64 r m a .told ≡ given beside (refused n)
     → (n ≡ 20 → ⊥) → (n ≡ 21 → ⊥) → (n ≡ 22 → ⊥) → Unchanged r m (arrival 64 r m a .receiver) (arrival 64 r m a .memory)
-refused-by-the-rules r m a known n = good.rules-refused 64 r m known n (carries 64 a)
+refused-by-the-rules r m a beside n = good.rules-refused 64 r m beside n (brings 64 a)
 
 -- of which each frees the slot that has the packet's key, and no other, and leaves the memory
-pub refused-and-freed : (r : Receiver) (m p : List ℕ) (a : Arrival) (known : Known) (n : ℕ)
-    → carries 64 a ≡ packet p known
-    → arrival 64 r m a .told ≡ given known (refused n) → 20 ≤ n
+pub refused-and-freed : (r : Receiver) (m p : List ℕ) (a : Arrival) (beside : Beside) (n : ℕ)
+    → brings 64 a ≡ packet p beside
+    → arrival 64 r m a .told ≡ given beside (refused n) → 20 ≤ n
     → SlotFreed (keyOf p) r m (arrival 64 r m a .receiver) (arrival 64 r m a .memory)
-refused-and-freed r m p a known n e = good.rules-freed 64 r m p known n (carries 64 a) e
+refused-and-freed r m p a beside n e = good.rules-freed 64 r m p beside n (brings 64 a) e
 
 -- a packet given to the message rules directly: the same
 pub given-and-refused : (r : Receiver) (m p : List ℕ) (n : ℕ) → stepOf 64 r m p .said ≡ refused n → (n ≡ 20 → ⊥)
@@ -108,27 +109,27 @@ not-freed = freed-refused 64
 -- none
 pub ring-output : (ring : List ℕ) (configured : ℕ) (flags : Flags) (read write : ℕ) (out : List ℕ)
     → taking.readOf 64 ring configured (mayRead (stateOf flags)) read write out .output
-    ≡ outputs.outputOf (ringCarries 64 ring configured flags read write out) out
+    ≡ outputs.outputOf (ringBrings 64 ring configured flags read write out) out
 ring-output = outputs.ring-output 64
 
 -- a ring cut out of a window by a configuration that was read from it never gets 1, in reading and in writing
-pub cut-ring-is-never-1 : (window : List ℕ) (c : Configuration) (part : Part) → isRing part ≡ true
-    → outcomeOf window ≡ found c
+pub cut-ring-is-never-1 : (window : List ℕ) (c : Configuration) (area : Area) → isRing area ≡ true
+    → describedOf window ≡ found c
     → (readable running : Bool) (read write n : ℕ)
-    → (taking.takenOf 64 (partOf window c part) (partPlace c part .length) readable read write n ≡ taking.refused 1 → ⊥)
-    × (putting.putOf 64 (length (partOf window c part)) (partPlace c part .length) running read write n
+    → (taking.takenOf 64 (areaOf window c area) (areaPlace c area .length) readable read write n ≡ taking.refused 1 → ⊥)
+    × (putting.putOf 64 (length (areaOf window c area)) (areaPlace c area .length) running read write n
     ≡ putting.refused 1 → ⊥)
-cut-ring-is-never-1 window c part is e readable running read write n =
-    let right = cut-ring-right window c part is e in (
-      taken-not-1 64 (partOf window c part) (partPlace c part .length) readable read write n right,
-      put-not-1 64 (length (partOf window c part)) (partPlace c part .length) running read write n right,
+cut-ring-is-never-1 window c area is e readable running read write n =
+    let right = cut-ring-right window c area is e in (
+      taken-not-1 64 (areaOf window c area) (areaPlace c area .length) readable read write n right,
+      put-not-1 64 (length (areaOf window c area)) (areaPlace c area .length) running read write n right,
     )
 
 -- what is written to it changes that ring alone: descriptor, structures with their words, and the other ring stay
-pub a-write-stays-in-its-ring : (window : List ℕ) (c : Configuration) (part : Part) → isRing part ≡ true
-    → outcomeOf window ≡ found c
+pub a-write-stays-in-its-ring : (window : List ℕ) (c : Configuration) (area : Area) → isRing area ≡ true
+    → describedOf window ≡ found c
     → (configured : ℕ) (running : Bool) (read write : ℕ) (p : List ℕ)
-    → RingChanged window c part (putting.writeOf 64 (partOf window c part) configured running read write p .ring)
+    → RingChanged window c area (putting.writeOf 64 (areaOf window c area) configured running read write p .ring)
 a-write-stays-in-its-ring = write-stays
 
 -- a word, and a pointer alone, that are refused to be stored: the window stays
@@ -188,14 +189,14 @@ written-region-is-the-layout region id notify p = written-whole region p id noti
 pub good-ring-packet-is-the-layout : (ring : List ℕ) (configured : ℕ) (readable : Bool)
     (read write output size next : ℕ) → Below 256 ring
     → taking.takenOf 64 ring configured readable read write output ≡ taking.packet size next
-    → RingLayout (turn read ring) (packetOf (turn read ring)) × (length (packetOf (turn read ring)) ≡ size)
+    → RingLayout (roundFrom read ring) (packetOf (roundFrom read ring)) × (length (packetOf (roundFrom read ring)) ≡ size)
     × (next ≡ nextOf configured read (wholeFor size))
 good-ring-packet-is-the-layout = ring-layout 64
 
 pub written-ring-packet-is-the-layout : (ring : List ℕ) (configured : ℕ) (running : Bool) (read write : ℕ)
     (p : List ℕ) (next : ℕ)
     → putting.writeOf 64 ring configured running read write p .says ≡ putting.written next
-    → putting.writeOf 64 ring configured running read write p .ring ≡ turning.stored ring write (ringBytes p)
+    → putting.writeOf 64 ring configured running read write p .ring ≡ rounds.stored ring write (ringBytes p)
 written-ring-packet-is-the-layout ring configured running read write p next e =
     ap (λ (s : putting.Said). putting.ringOf s ring write p) e
 
@@ -203,7 +204,7 @@ written-ring-packet-is-the-layout ring configured running read write p next e =
 -- middles of the start's size, an end no longer, are accepted whatever may stand between; held is the sum of the bodies
 -- so far, the message is the bodies joined
 pub messages-are-put-together : (r : Receiver) (m first : List ℕ) (items : List Item) (final : List ℕ)
-    (t : Train 64 r m first items final)
+    (t : OneMessage 64 r m first items final)
     → Accepted r first items final (run 64 r m (give first ∷ (callsOf items ++ (give final ∷ []))))
     (run 64 (stepOf 64 r m first .receiver) (stepOf 64 r m first .memory) (callsOf items))
     (slotFor (r .slots) (keyOf first))
@@ -218,14 +219,14 @@ a-message-of-one-packet = single-accepted 64
 -- "What is written reads back the same": "a frame at its destination address,"
 pub frame-reads-back : (out p : List ℕ) (destination source : ℕ)
     → frames.writeRefusal 64 (length out) (length p) destination source ≡ 0
-    → carries 64 (bySmbus (take (frames.frameSize (length p)) (frames.outputOf 64 out p destination source))
+    → brings 64 (bySmbus (take (frames.frameSize (length p)) (frames.outputOf 64 out p destination source))
     destination) ≡ packet p (Source source)
 frame-reads-back = good.frame-back 64
 
 -- "a region under the same id,"
 pub region-reads-back : (region : List ℕ) (id : ℕ) (notify : Bool) (p : List ℕ)
     → regions.writeRefusal 64 (length region) id (length p) ≡ 0
-    → carries 64 (byPcc (regions.writtenOf 64 region id notify p) id) ≡ packet p (Notify notify)
+    → brings 64 (byPcc (regions.writtenOf 64 region id notify p) id) ≡ packet p (Notify notify)
 region-reads-back = good.region-back 64
 
 -- "a ring from the old write pointer."
@@ -233,7 +234,7 @@ pub ring-reads-back : (ring : List ℕ) (configured : ℕ) (running : Bool) (rea
     (flags : Flags) (out : List ℕ)
     → putting.writeOf 64 ring configured running read write p .says ≡ putting.written next
     → mayRead (stateOf flags) ≡ true → 68 ≤ length out
-    → carries 64 (byRing (putting.writeOf 64 ring configured running read write p .ring) configured flags write next
+    → brings 64 (byRing (putting.writeOf 64 ring configured running read write p .ring) configured flags write next
     out) ≡ packet p (Next next)
 ring-reads-back = good.ring-back 64
 
@@ -254,7 +255,7 @@ what-is-queued-is-read-back ring configured pointer packets states out right at 
 pub what-is-still-there-is-read-back : (ring : List ℕ) (configured read write : ℕ) (packets : List (List ℕ))
     (states : List Flags) (out : List ℕ)
     → setUpRight 64 configured (length ring) ≡ true → pointersRight configured read write ≡ true
-    → allSized 64 packets ≡ true → take (filledOf configured read write) (turn read ring) ≡ allBytes packets
+    → allSized 64 packets ≡ true → take (filledOf configured read write) (roundFrom read ring) ≡ allBytes packets
     → allReadable states ≡ true → length states ≡ length packets → 68 ≤ length out
     → readAll 64 configured ring out write states read ≡ packets
 what-is-still-there-is-read-back ring configured read write packets states out right at sized bytes may many long =
@@ -263,7 +264,7 @@ what-is-still-there-is-read-back ring configured read write packets states out r
 -- "writing stays in normal runtime only": one more packet, while one end alone asks for a reset, is refused with 11,
 -- and the ring stays as it is
 pub nothing-is-queued-while-a-reset-is-asked : (ring : List ℕ) (configured read write : ℕ) (p : List ℕ)
-    → setUpRight 64 configured (length ring) ≡ true → packetSize 64 (length p) ≡ true
+    → setUpRight 64 configured (length ring) ≡ true → sizeRight 64 (length p) ≡ true
     → (putting.writeOf 64 ring configured (mayWrite (stateOf askedByHost)) read write p
     ≡ putting.left (putting.refused 11) ring)
     × (putting.writeOf 64 ring configured (mayWrite (stateOf askedByController)) read write p
@@ -289,33 +290,33 @@ pub from-any-state : (r : Receiver) (m : List ℕ) (arrivals : List Arrival)
 from-any-state r m arrivals = presented 64 arrivals r m
 
 -- "Every packet of 5 to 68 bytes has a good arrival on each path.": a frame of bytes between any two addresses,
-pub every-packet-by-smbus : (p : List ℕ) (destination source : ℕ) → Below 256 p → packetSize 64 (length p) ≡ true
+pub every-packet-by-smbus : (p : List ℕ) (destination source : ℕ) → Below 256 p → sizeRight 64 (length p) ≡ true
     → destination ≤ 127 → source ≤ 127
     → Below 256 (frameOf destination source p)
-    × (carries 64 (bySmbus (frameOf destination source p) destination) ≡ packet p (Source source))
+    × (brings 64 (bySmbus (frameOf destination source p) destination) ≡ packet p (Source source))
 every-packet-by-smbus p = good.every-frame p
 
 -- a region of bytes under any id,
-pub every-packet-by-pcc : (p : List ℕ) (id : ℕ) (notify : Bool) → Below 256 p → packetSize 64 (length p) ≡ true
+pub every-packet-by-pcc : (p : List ℕ) (id : ℕ) (notify : Bool) → Below 256 p → sizeRight 64 (length p) ≡ true
     → id ≤ 255
-    → Below 256 (regionFor id notify p) × (carries 64 (byPcc (regionFor id notify p) id) ≡ packet p (Notify notify))
+    → Below 256 (regionFor id notify p) × (brings 64 (byPcc (regionFor id notify p) id) ≡ packet p (Notify notify))
 every-packet-by-pcc p = good.every-region p
 
 -- and a ring of bytes of any right length. "Demand 3's good arrivals now include ring arrivals in these two states"
 -- (document 02, #104): in normal runtime (1010), and while the host (1011) or the controller (1110) asks for a reset
 pub every-packet-by-ring : (p : List ℕ) (configured : ℕ) (flags : Flags) (out : List ℕ) → Below 256 p
-    → packetSize 64 (length p) ≡ true
+    → sizeRight 64 (length p) ≡ true
     → lengthRight configured ≡ true → mayRead (stateOf flags) ≡ true → 68 ≤ length out
     → Below 256 (arrivalRing configured p)
-    × (carries 64 (byRing (arrivalRing configured p) configured flags 0 (wholeFor (length p)) out)
+    × (brings 64 (byRing (arrivalRing configured p) configured flags 0 (wholeFor (length p)) out)
     ≡ packet p (Next (wholeFor (length p))))
 every-packet-by-ring p = good.every-ring p
 
 -- of which three are for every packet: 128 bytes and an output of 68, in each of the three states
-pub every-packet-by-a-ring : (p : List ℕ) → Below 256 p → packetSize 64 (length p) ≡ true
+pub every-packet-by-a-ring : (p : List ℕ) → Below 256 p → sizeRight 64 (length p) ≡ true
     → Below 256 (arrivalRing 128 p)
     × (map
-    (λ (flags : Flags). carries 64 (byRing (arrivalRing 128 p) 128 flags 0 (wholeFor (length p)) (replicate 68 0)))
+    (λ (flags : Flags). brings 64 (byRing (arrivalRing 128 p) 128 flags 0 (wholeFor (length p)) (replicate 68 0)))
     (normalRuntime ∷ askedByHost ∷ askedByController ∷ [])
     ≡ replicate 3 (packet p (Next (wholeFor (length p)))))
 unfolding stateOf

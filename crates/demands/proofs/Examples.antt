@@ -26,15 +26,15 @@ use Rattle.pcc.specs.Writing as regions
 use Rattle.pcc.proofs.Back.{every-number}
 use Rattle.mmbi.specs.declared.interface.Flags.{Flags}
 use Rattle.mmbi.specs.Interface.{flagsOf, normalRuntime, askedByHost, askedByController, stateOf, mayRead, mayWrite}
-use Rattle.descriptor.specs.declared.configuration.Part.the-variants.{B2h}
-use Rattle.descriptor.specs.Configuration.{partPlace, inside, clear, ringRight, allowed}
+use Rattle.descriptor.specs.declared.configuration.Area.the-variants.{B2h}
+use Rattle.descriptor.specs.Configuration.{areaPlace, inside, clear, ringRight, allowed}
 use Rattle.descriptor.proofs.Literal.{windowImage, imageConfiguration, image-found}
 use Rattle.window.specs.declared.word.Pointer.the-variants.{H2bWrite}
 use Rattle.window.specs.Window as window
 use Rattle.ring.specs.Numbers.{filledOf, nextOf}
 use Rattle.ring.specs.Packet.{packetOf, wholeFor, headerFor, ringBytes, RingLayout}
 use Rattle.ring.specs.Runs.{arrivalRing, allSized, spaceFor, allBytes, queued, allReadable, readAll}
-use Rattle.ring.specs.Turn.{turn, stored}
+use Rattle.ring.specs.Round.{roundFrom, stored}
 use Rattle.ring.specs.Reading as taking
 use Rattle.ring.specs.Writing as putting
 use Rattle.ring.proofs.Literal as image
@@ -43,13 +43,13 @@ use Rattle.receiver.specs.Effects.{Unchanged, SlotFreed}
 use Rattle.receiver.specs.Step.{stepOf}
 use Rattle.messages.specs.Run.{give, run}
 use Rattle.messages.specs.Message.{callsOf, slotFor, Accepted, AcceptedAlone}
-use Rattle.rack.specs.declared.answer.Known.the-variants.{Source, Notify, Next}
+use Rattle.rack.specs.declared.answer.Beside.the-variants.{Source, Notify, Next}
 use Rattle.rack.specs.Arrivals as carrier
-use Rattle.rack.specs.Arrivals.{Carried, bySmbus, byPcc, byRing, carries}
+use Rattle.rack.specs.Arrivals.{Brought, bySmbus, byPcc, byRing, brings}
 use Rattle.rack.specs.Answers.{given, nothing, arrivedOf}
 use Rattle.demands.specs.Presenting.{arrival}
 use Rattle.demands.specs.Numbers.{card, empty, packetWith}
-use Rattle.demands.proofs.Checked.{literal-carried}
+use Rattle.demands.proofs.Checked.{literal-brought}
 use Rattle.demands.proofs.Demands as demands
 use Rattle.demands.proofs.Steps.{stranger, gathering, middles, steps}
 
@@ -60,8 +60,8 @@ small = all-bytes literalPacket tt
 -- DEMAND 1
 
 -- an empty frame
-no-frame : carries 64 (bySmbus [] 32) ≡ carrier.none (carrier.refused 3)
-unfolding carrier.smbusCarries smbus.refusalOf
+no-frame : brings 64 (bySmbus [] 32) ≡ carrier.none (carrier.refused 3)
+unfolding carrier.smbusBrings smbus.refusalOf
 no-frame = refl
 
 pub without-a-packet : arrival 64 card empty (bySmbus [] 32)
@@ -73,7 +73,7 @@ pub refused-by-the-rules : Unchanged stranger empty (arrival 64 stranger empty (
     (arrival 64 stranger empty (bySmbus literalFrame 32) .memory)
 refused-by-the-rules =
     demands.refused-by-the-rules stranger empty (bySmbus literalFrame 32) (Source 17) 16
-    (ap (λ (c : Carried). arrivedOf 64 stranger empty c .told) literal-carried
+    (ap (λ (c : Brought). arrivedOf 64 stranger empty c .told) literal-brought
     ∙ ap (given (Source 17)) (steps .not-ours))
     (λ e. omega arith) (λ e. omega arith) (λ e. omega arith)
 
@@ -90,15 +90,15 @@ wrong = packetWith 0x00 1 7
 abbrev wrongRegion : List ℕ
 wrongRegion = regionFor 3 true wrong
 
-wrong-carried : carries 64 (byPcc wrongRegion 3) ≡ carrier.packet wrong (Notify true)
-wrong-carried = demands.every-packet-by-pcc wrong 3 true (all-bytes wrong tt) refl (lit≤ tt) .1
+wrong-brought : brings 64 (byPcc wrongRegion 3) ≡ carrier.packet wrong (Notify true)
+wrong-brought = demands.every-packet-by-pcc wrong 3 true (all-bytes wrong tt) refl (lit≤ tt) .1
 
 pub refused-and-freed : SlotFreed (keyOf wrong) gathering empty
     (arrival 64 gathering empty (byPcc wrongRegion 3) .receiver)
     (arrival 64 gathering empty (byPcc wrongRegion 3) .memory)
 refused-and-freed =
-    demands.refused-and-freed gathering empty wrong (byPcc wrongRegion 3) (Notify true) 20 wrong-carried
-    (ap (λ (c : Carried). arrivedOf 64 gathering empty c .told) wrong-carried
+    demands.refused-and-freed gathering empty wrong (byPcc wrongRegion 3) (Notify true) 20 wrong-brought
+    (ap (λ (c : Brought). arrivedOf 64 gathering empty c .told) wrong-brought
     ∙ ap (given (Notify true)) (steps .not-next)) (lit≤ tt)
 
 pub given-and-freed : SlotFreed (keyOf wrong) gathering empty (stepOf 64 gathering empty wrong .receiver)
@@ -111,14 +111,14 @@ not-freed = demands.not-freed card 4 (λ e. omega (arith, steps .no-slot))
 
 -- the window of document 003's tables, worked out by hand
 pub cut-ring-is-never-1 : (readable running : Bool) (read write n : ℕ)
-    → (taking.takenOf 64 (window.partOf windowImage imageConfiguration B2h)
-    (partPlace imageConfiguration B2h .length) readable read write n ≡ taking.refused 1 → ⊥)
-    × (putting.putOf 64 (length (window.partOf windowImage imageConfiguration B2h))
-    (partPlace imageConfiguration B2h .length) running read write n ≡ putting.refused 1 → ⊥)
+    → (taking.takenOf 64 (window.areaOf windowImage imageConfiguration B2h)
+    (areaPlace imageConfiguration B2h .length) readable read write n ≡ taking.refused 1 → ⊥)
+    × (putting.putOf 64 (length (window.areaOf windowImage imageConfiguration B2h))
+    (areaPlace imageConfiguration B2h .length) running read write n ≡ putting.refused 1 → ⊥)
 cut-ring-is-never-1 = demands.cut-ring-is-never-1 windowImage imageConfiguration B2h refl image-found
 
 pub a-write-stays-in-its-ring : window.RingChanged windowImage imageConfiguration B2h
-    (putting.writeOf 64 (window.partOf windowImage imageConfiguration B2h) 128 true 0 0 literalPacket .ring)
+    (putting.writeOf 64 (window.areaOf windowImage imageConfiguration B2h) 128 true 0 0 literalPacket .ring)
 a-write-stays-in-its-ring =
     demands.a-write-stays-in-its-ring windowImage imageConfiguration B2h refl image-found 128 true 0 0 literalPacket
 
@@ -128,9 +128,9 @@ unfolding window.storeRefusal allowed inside clear ringRight
 no-pointer = refl
 
 pub not-stored : window.stored windowImage imageConfiguration H2bWrite
-    (record { pointer = 2; high = true; low = false }) ≡ windowImage
+    (record { pointer = 2; bit1 = true; bit0 = false }) ≡ windowImage
 not-stored =
-    demands.not-stored windowImage imageConfiguration H2bWrite (record { pointer = 2; high = true; low = false })
+    demands.not-stored windowImage imageConfiguration H2bWrite (record { pointer = 2; bit1 = true; bit0 = false })
     (λ e. omega (arith, no-pointer))
 
 pub pointer-not-stored : window.storedPointer windowImage imageConfiguration H2bWrite 2 ≡ windowImage
@@ -172,7 +172,7 @@ ten = replicate 10 238
 pub written-frame-is-the-layout : frames.outputOf 64 ten literalPacket 32 17 ≡ fronted ten (frameOf 32 17 literalPacket)
 written-frame-is-the-layout = demands.written-frame-is-the-layout ten literalPacket 32 17 (writable .0)
 
-pub frame-reads-back : carries 64
+pub frame-reads-back : brings 64
     (bySmbus (take (frames.frameSize 5) (frames.outputOf 64 ten literalPacket 32 17)) 32)
     ≡ carrier.packet literalPacket (Source 17)
 frame-reads-back = demands.frame-reads-back ten literalPacket 32 17 (writable .0)
@@ -184,7 +184,7 @@ pub written-region-is-the-layout : regions.writtenOf 64 bare 3 true literalPacke
     ≡ fronted bare (regionOf 3 true literalPacket)
 written-region-is-the-layout = demands.written-region-is-the-layout bare 3 true literalPacket (writable .1)
 
-pub region-reads-back : carries 64 (byPcc (regions.writtenOf 64 bare 3 true literalPacket) 3)
+pub region-reads-back : brings 64 (byPcc (regions.writtenOf 64 bare 3 true literalPacket) 3)
     ≡ carrier.packet literalPacket (Notify true)
 region-reads-back = demands.region-reads-back bare 3 true literalPacket (writable .1)
 
@@ -214,7 +214,7 @@ readable : mayRead (stateOf askedByController) ≡ true
 unfolding stateOf
 readable = refl
 
-pub ring-reads-back : carries 64
+pub ring-reads-back : brings 64
     (byRing (putting.writeOf 64 round 128 true 120 120 image.packet .ring) 128 askedByController 120 4
     (replicate 68 0)) ≡ carrier.packet image.packet (Next 4)
 ring-reads-back =
@@ -223,8 +223,8 @@ ring-reads-back =
 
 -- the ring so written
 pub good-ring-packet-is-the-layout :
-    RingLayout (turn 120 image.written) (packetOf (turn 120 image.written))
-    × (length (packetOf (turn 120 image.written)) ≡ 5) × (4 ≡ nextOf 128 120 (wholeFor 5))
+    RingLayout (roundFrom 120 image.written) (packetOf (roundFrom 120 image.written))
+    × (length (packetOf (roundFrom 120 image.written)) ≡ 5) × (4 ≡ nextOf 128 120 (wholeFor 5))
 good-ring-packet-is-the-layout =
     demands.good-ring-packet-is-the-layout image.written 128 true 120 4 68 5 4 (all-bytes image.written tt)
     (ap (λ (l : taking.Left). l .says) image.image-read)
@@ -258,8 +258,8 @@ what-is-queued-is-read-back =
     (read controllerAsks (all-readable .0) refl, read hostAsks (all-readable .1) refl)
 
 -- the ring with the three in it, of which the first has been read: the other two are still there
-two-left : take (filledOf 128 112 8) (turn 112 (image.threeKept .ring)) ≡ allBytes (drop 1 image.three)
-unfolding filledOf turn allBytes ringBytes headerFor wordBytes
+two-left : take (filledOf 128 112 8) (roundFrom 112 (image.threeKept .ring)) ≡ allBytes (drop 1 image.three)
+unfolding filledOf roundFrom allBytes ringBytes headerFor wordBytes
 two-left = refl
 
 two-right : (allSized 64 (drop 1 image.three) ≡ true) × (allReadable (replicate 2 askedByController) ≡ true)
@@ -299,15 +299,15 @@ a-message-of-one-packet =
 -- DEMAND 3
 
 pub every-packet-by-smbus : Below 256 (frameOf 32 17 literalPacket)
-    × (carries 64 (bySmbus (frameOf 32 17 literalPacket) 32) ≡ carrier.packet literalPacket (Source 17))
+    × (brings 64 (bySmbus (frameOf 32 17 literalPacket) 32) ≡ carrier.packet literalPacket (Source 17))
 every-packet-by-smbus = demands.every-packet-by-smbus literalPacket 32 17 small refl (lit≤ tt) (lit≤ tt)
 
 pub every-packet-by-pcc : Below 256 (regionFor 3 true literalPacket)
-    × (carries 64 (byPcc (regionFor 3 true literalPacket) 3) ≡ carrier.packet literalPacket (Notify true))
+    × (brings 64 (byPcc (regionFor 3 true literalPacket) 3) ≡ carrier.packet literalPacket (Notify true))
 every-packet-by-pcc = demands.every-packet-by-pcc literalPacket 3 true small refl (lit≤ tt)
 
 pub every-packet-by-ring : Below 256 (arrivalRing 65536 literalPacket)
-    × (carries 64
+    × (brings 64
     (byRing (arrivalRing 65536 literalPacket) 65536 askedByController 0 (wholeFor 5) (replicate 100 0))
     ≡ carrier.packet literalPacket (Next (wholeFor 5)))
 every-packet-by-ring =
@@ -317,7 +317,7 @@ every-packet-by-ring =
 -- 1010, 1011 and 1110
 pub every-packet-by-a-ring : Below 256 (arrivalRing 128 literalPacket)
     × (map
-    (λ (flags : Flags). carries 64 (byRing (arrivalRing 128 literalPacket) 128 flags 0 12 (replicate 68 0)))
+    (λ (flags : Flags). brings 64 (byRing (arrivalRing 128 literalPacket) 128 flags 0 12 (replicate 68 0)))
     (flagsOf true false true false ∷ flagsOf true false true true ∷ flagsOf true true true false ∷ [])
     ≡ replicate 3 (carrier.packet literalPacket (Next 12)))
 every-packet-by-a-ring = demands.every-packet-by-a-ring literalPacket small refl

@@ -7,13 +7,13 @@ use lib.ListN.{length}
 use Rattle.octets.specs.Bytes.{fronted}
 use Rattle.mmbi.specs.declared.interface.Flags.{Flags}
 use Rattle.mmbi.specs.Interface.{stateOf, mayRead}
-use Rattle.ring.specs.Turn.{turn}
+use Rattle.ring.specs.Round.{roundFrom}
 use Rattle.ring.specs.Reading as taking
-use Rattle.rack.specs.Arrivals.{Carried, packet, none, ringSays, ringCarries}
+use Rattle.rack.specs.Arrivals.{Brought, packet, none, ringSays, ringBrings}
 
 -- what a ring arrival leaves in its output
-abbrev pub outputOf : Carried → List ℕ → List ℕ
-outputOf (packet p known) out = fronted out p
+abbrev pub outputOf : Brought → List ℕ → List ℕ
+outputOf (packet p beside) out = fronted out p
 outputOf (none why) out = out
 
 by-answer : (said : taking.Said) (s out : List ℕ) → taking.outputOf said s out ≡ outputOf (ringSays s said) out
@@ -24,8 +24,8 @@ by-answer (taking.refused number) s out = refl
 
 pub ring-output : (most : ℕ) (ring : List ℕ) (configured : ℕ) (flags : Flags) (read write : ℕ) (out : List ℕ)
     → taking.readOf most ring configured (mayRead (stateOf flags)) read write out .output
-    ≡ outputOf (ringCarries most ring configured flags read write out) out
-unfolding ringCarries
+    ≡ outputOf (ringBrings most ring configured flags read write out) out
+unfolding ringBrings
 ring-output most ring configured flags read write out =
     by-answer (taking.takenOf most ring configured (mayRead (stateOf flags)) read write (length out))
-    (turn read ring) out
+    (roundFrom read ring) out

@@ -6,7 +6,7 @@ use Prim.Native.Nat.{ℕ}
 use Rattle.slots.specs.declared.state.Receiver.{Receiver}
 use Rattle.receiver.specs.Step.{stepOf}
 use Rattle.messages.specs.Run.{give, joined, called, run, runPackets}
-use Rattle.rack.specs.Arrivals.{Arrival, Carried, packet, none, carries}
+use Rattle.rack.specs.Arrivals.{Arrival, Brought, packet, none, brings}
 use Rattle.rack.specs.Answers.{arrivedOf}
 use Rattle.demands.specs.Presenting.{ofArrival, present, packetIn, packetsOf}
 
@@ -17,16 +17,16 @@ module _ (most : ℕ) where
       (r : Receiver) (m : List ℕ) → present most r m arrivals ≡ runPackets most r m (packetsOf most arrivals)
 
   -- one arrival, whatever its carrier made of it, and then the rest
-  then : (r : Receiver) (m : List ℕ) (c : Carried) (arrivals : List Arrival) → Alike arrivals
+  then : (r : Receiver) (m : List ℕ) (c : Brought) (arrivals : List Arrival) → Alike arrivals
       → joined (ofArrival (arrivedOf most r m c))
       (present most (arrivedOf most r m c .receiver) (arrivedOf most r m c .memory) arrivals)
       ≡ runPackets most r m (packetIn c ++ packetsOf most arrivals)
   unfolding run
-  then r m (packet p known) arrivals rest =
+  then r m (packet p beside) arrivals rest =
       ap (joined (called most r m (give p))) (rest (stepOf most r m p .receiver) (stepOf most r m p .memory))
   then r m (none why) arrivals rest = rest r m
 
   pub presented : (arrivals : List Arrival) → Alike arrivals
   unfolding present packetsOf run
   presented [] r m = refl
-  presented (a ∷ arrivals) r m = then r m (carries most a) arrivals (presented arrivals)
+  presented (a ∷ arrivals) r m = then r m (brings most a) arrivals (presented arrivals)

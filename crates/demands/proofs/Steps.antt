@@ -21,7 +21,7 @@ use Rattle.decision.specs.Rules.{after, onStart, gathered, onFollow, ruled}
 use Rattle.decision.specs.Decision.{fromSource, fromPacket, decided}
 use Rattle.receiver.specs.Step.{refused, held, stepOf}
 use Rattle.messages.specs.Run.{give, free}
-use Rattle.messages.specs.Message.{Item, part, between, Starts, Middles, Train, slotFor}
+use Rattle.messages.specs.Message.{Item, part, between, Starts, Middles, OneMessage, slotFor}
 use Rattle.demands.specs.Numbers.{card, empty, packetWith}
 
 -- a receiver with another EID
@@ -65,7 +65,7 @@ pub record Steps : Type 0 where
   pub room : slotFor (card .slots) (keyOf literalPacket) ≡ 0
   pub right : rightState 64 card ≡ true
   pub no-slot : freedOf 64 card 4 .number ≡ 1
-  pub train : Train 64 card empty (packetWith 0xBD 64 1) middles (packetWith 0x5D 2 3)
+  pub train : OneMessage 64 card empty (packetWith 0xBD 64 1) middles (packetWith 0x5D 2 3)
 
 pub steps : Steps
 unfolding stepOf decided fromPacket fromSource setupRefusal packetRefusal sourceRefusal ruled onStart onFollow gathered

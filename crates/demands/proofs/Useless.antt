@@ -19,8 +19,8 @@ use Rattle.ring.specs.Runs.{arrivalRing}
 use Rattle.slots.specs.declared.state.Receiver.{Receiver}
 use Rattle.slots.specs.Slots.{slotAt, isFree}
 use Rattle.receiver.specs.Step as rules
-use Rattle.rack.specs.declared.answer.Known.{Known}
-use Rattle.rack.specs.Arrivals.{Arrival, bySmbus, byPcc, byRing, Carried, Without, packet, carries}
+use Rattle.rack.specs.declared.answer.Beside.{Beside}
+use Rattle.rack.specs.Arrivals.{Arrival, bySmbus, byPcc, byRing, Brought, Without, packet, brings}
 use Rattle.rack.specs.Answers.{given, nothing, Left, arrivedOf}
 use Rattle.transcript.specs.declared.state.State.{State}
 use Rattle.transcript.specs.Frame.{start, oneMore, withPacket, frameOf}
@@ -28,7 +28,7 @@ use Rattle.transcript.specs.Transcript as transcript
 use Rattle.demands.specs.Presenting.{arrival}
 use Rattle.demands.specs.Numbers.{card, empty, packetWith}
 use Rattle.demands.proofs.Arrivals.{every-region, every-ring}
-use Rattle.demands.proofs.Checked.{literal-carried}
+use Rattle.demands.proofs.Checked.{literal-brought}
 use Rattle.demands.proofs.Steps.{gathering, steps}
 
 -- facts by computation that the shut-outs rest on
@@ -38,28 +38,28 @@ none-counted = refl
 
 one-counted : transcript.run start empty (literalFrame ∷ []) .state .packets ≡ 1
 unfolding transcript.run frameOf oneMore
-one-counted = ap (λ (c : Carried). withPacket (arrivedOf 64 card empty c .told) 0) literal-carried
+one-counted = ap (λ (c : Brought). withPacket (arrivedOf 64 card empty c .told) 0) literal-brought
 
 -- "One that refuses everything is shut out by 3's arrival on each path with 2's reading.": a good arrival is never
 -- answered with a refusal
 module _ (build : Receiver → List ℕ → Arrival → Left)
     (meets : (r : Receiver) (m : List ℕ) (a : Arrival) → build r m a ≡ arrival 64 r m a) where
-  not-both : (known : Known) (said : rules.Said) (why : Without) → given known said ≡ nothing why → ⊥
-  not-both known said why e = let z : _≡_ {A = ℕ} 0 1 = cc in omega arith
+  not-both : (beside : Beside) (said : rules.Said) (why : Without) → given beside said ≡ nothing why → ⊥
+  not-both beside said why e = let z : _≡_ {A = ℕ} 0 1 = cc in omega arith
 
-  refuser : (a : Arrival) (p : List ℕ) (known : Known) → carries 64 a ≡ packet p known
+  refuser : (a : Arrival) (p : List ℕ) (beside : Beside) → brings 64 a ≡ packet p beside
       → ((r : Receiver) (m : List ℕ) → (why : Without) × (build r m a .told ≡ nothing why)) → ⊥
-  refuser a p known e refuses =
+  refuser a p beside e refuses =
       let no = refuses card empty in
-      not-both known (rules.stepOf 64 card empty p .said) (no .0)
-      (sym (ap (λ (l : Left). l .told) (meets card empty a) ∙ ap (λ (c : Carried). arrivedOf 64 card empty c .told) e)
+      not-both beside (rules.stepOf 64 card empty p .said) (no .0)
+      (sym (ap (λ (l : Left). l .told) (meets card empty a) ∙ ap (λ (c : Brought). arrivedOf 64 card empty c .told) e)
       ∙ no .1)
 
   abbrev Refuses : Arrival → Type 0
   Refuses a = (r : Receiver) (m : List ℕ) → (why : Without) × (build r m a .told ≡ nothing why)
 
   pub refuses-every-frame : ((frame : List ℕ) (own : ℕ) → Refuses (bySmbus frame own)) → ⊥
-  refuses-every-frame all = refuser (bySmbus literalFrame 32) literalPacket _ literal-carried (all literalFrame 32)
+  refuses-every-frame all = refuser (bySmbus literalFrame 32) literalPacket _ literal-brought (all literalFrame 32)
 
   pub refuses-every-region : ((region : List ℕ) (id : ℕ) → Refuses (byPcc region id)) → ⊥
   refuses-every-region all =

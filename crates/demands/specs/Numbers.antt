@@ -13,7 +13,7 @@ use Rattle.slots.specs.declared.state.Receiver.{Receiver}
 use Rattle.slots.specs.Changes.{fresh}
 use Rattle.receiver.specs.Step.{held, done}
 use Rattle.messages.specs.Run.{rules, runPackets}
-use Rattle.rack.specs.declared.answer.Known.the-variants.{Source}
+use Rattle.rack.specs.declared.answer.Beside.the-variants.{Source}
 use Rattle.rack.specs.Arrivals.{bySmbus}
 use Rattle.rack.specs.Answers.{given}
 use Rattle.demands.specs.Presenting.{arrival}

@@ -5,21 +5,21 @@ use Prim.Native.Nat.{ℕ}
 use mathlib.Core.List.{List, [], _∷_, _++_}
 use Rattle.slots.specs.declared.state.Receiver.{Receiver}
 use Rattle.messages.specs.Run.{Reply, rules, messagesOf, Ran, joined}
-use Rattle.rack.specs.Arrivals.{Arrival, Carried, packet, none, carries}
+use Rattle.rack.specs.Arrivals.{Arrival, Brought, packet, none, brings}
 use Rattle.rack.specs.Answers.{Told, given, nothing, Left, arrivedOf}
 
 -- one arrival, as the calls of the three paths promise it
 abbrev pub arrival : ℕ → Receiver → List ℕ → Arrival → Left
-arrival most r m a = arrivedOf most r m (carries most a)
+arrival most r m a = arrivedOf most r m (brings most a)
 
 -- "What the message rules answer to the good arrivals": to any other they answer nothing
 abbrev pub answersIn : Told → List Reply
-answersIn (given known said) = rules said ∷ []
+answersIn (given beside said) = rules said ∷ []
 answersIn (nothing why) = []
 
 -- the messages
 abbrev pub messagesIn : Told → List ℕ → List (List ℕ)
-messagesIn (given known said) m = messagesOf said m
+messagesIn (given beside said) m = messagesOf said m
 messagesIn (nothing why) m = []
 
 abbrev pub ofArrival : Left → Ran
@@ -39,11 +39,11 @@ present most r m (a ∷ arrivals) =
     joined (ofArrival (arrival most r m a))
     (present most (arrival most r m a .receiver) (arrival most r m a .memory) arrivals)
 
-abbrev pub packetIn : Carried → List (List ℕ)
-packetIn (packet p known) = p ∷ []
+abbrev pub packetIn : Brought → List (List ℕ)
+packetIn (packet p beside) = p ∷ []
 packetIn (none why) = []
 
 -- "the bare packets of the good arrivals, in that order"
 unfoldable pub packetsOf : ℕ → List Arrival → List (List ℕ)
 packetsOf most [] = []
-packetsOf most (a ∷ arrivals) = packetIn (carries most a) ++ packetsOf most arrivals
+packetsOf most (a ∷ arrivals) = packetIn (brings most a) ++ packetsOf most arrivals

@@ -14,7 +14,7 @@ use Rattle.descriptor.specs.declared.reading.Configured.the-variants.{Ch
 use Rattle.descriptor.specs.Answers.{says}
 use Rattle.descriptor.proofs.reading.read_descriptor.Reads as read-descriptor
 use Rattle.descriptor.proofs.configuration.is_allowed.Reads as is-allowed
-use Rattle.descriptor.proofs.configuration.part_place.Reads as part-place
+use Rattle.descriptor.proofs.configuration.area_place.Reads as area-place
 use Rattle.descriptor.proofs.place.end.Reads as end
 
 -- two answers that say the same are one answer
@@ -33,9 +33,9 @@ pub is-allowed-determined : (κs : Lfts 0) (a : _) (r q : Bool) (e f : _)
     → is-allowed.Post κs a r e → is-allowed.Post κs a q f → r ≡ q
 is-allowed-determined κs a r q e f p o = determined p o
 
-pub part-place-determined : (κs : Lfts 0) (a : _) (r q : Place) (e f : _)
-    → part-place.Post κs a r e → part-place.Post κs a q f → r ≡ q
-part-place-determined κs a r q e f p o = determined p o
+pub area-place-determined : (κs : Lfts 0) (a : _) (r q : Place) (e f : _)
+    → area-place.Post κs a r e → area-place.Post κs a q f → r ≡ q
+area-place-determined κs a r q e f p o = determined p o
 
 pub end-determined : (κs : Lfts 0) (a : _) (r q : ℕ) (e f : _) → end.Post κs a r e → end.Post κs a q f → r ≡ q
 end-determined κs a r q e f p o = determined p o
@@ -43,6 +43,6 @@ end-determined κs a r q e f p o = determined p o
 -- No call asks anything of its arguments first.
 pub no-requires : ((κs : Lfts 1) (a : _) → read-descriptor.Pre κs a)
     × ((κs : Lfts 0) (a : _) → is-allowed.Pre κs a)
-    × ((κs : Lfts 0) (a : _) → part-place.Pre κs a)
+    × ((κs : Lfts 0) (a : _) → area-place.Pre κs a)
     × ((κs : Lfts 0) (a : _) → end.Pre κs a)
 no-requires = ((λ κs a. tt), (λ κs a. tt), (λ κs a. tt), (λ κs a. tt))

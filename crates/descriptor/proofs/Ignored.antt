@@ -6,7 +6,7 @@ use Prim.Native.Nat.{ℕ, _+_, _%_}
 use native.Mathlib.Omega.{arith}
 use lib.ListN.{getD}
 use Rattle.octets.specs.Words.{highFirst, wordAt}
-use Rattle.descriptor.specs.Descriptor.{signatureRight, baseAt, configurationIn, refusalOf, outcomeOf}
+use Rattle.descriptor.specs.Descriptor.{signatureRight, baseAt, configurationIn, refusalOf, describedOf}
 use Rattle.descriptor.specs.Alike.{Alike}
 
 module _ (a b : List ℕ) (w : Alike a b) where
@@ -54,6 +54,6 @@ module _ (a b : List ℕ) (w : Alike a b) where
       rw (w .lengths, signatures, version, kind, configurations)
 
   -- and the same answer whole
-  pub reserved-ignored : outcomeOf a ≡ outcomeOf b
-  unfolding outcomeOf
+  pub reserved-ignored : describedOf a ≡ describedOf b
+  unfolding describedOf
   reserved-ignored = rw (same-refusal, configurations)

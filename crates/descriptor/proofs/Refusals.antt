@@ -15,7 +15,7 @@ use Rattle.octets.proofs.Choice.{passed}
 use Rattle.descriptor.specs.declared.configuration.Configuration.{Configuration}
 use Rattle.descriptor.specs.Configuration.{allowed}
 use Rattle.descriptor.specs.Descriptor.{signatureRight, versionRight, typeRight, configurationIn, refusalOf}
-use Rattle.descriptor.specs.Descriptor.{found, refused, outcomeOf, Good, FarBase}
+use Rattle.descriptor.specs.Descriptor.{found, refused, describedOf, Good, FarBase}
 use Rattle.descriptor.proofs.Configurations.{allowed-facts, allowed-holds}
 
 -- past the signature there are three tests left
@@ -97,13 +97,13 @@ module _ (s : List ℕ) where
       (allowed-holds (length s) (configurationIn s) (g .places))
 
   -- what the answer is
-  pub outcome-refused : (n : ℕ) → 1 ≤ n → refusalOf s ≡ n → outcomeOf s ≡ refused n
-  unfolding outcomeOf
-  outcome-refused n h e = rw (e, ne-eqb n 0 (λ (z : n ≡ 0). omega arith))
+  pub described-refused : (n : ℕ) → 1 ≤ n → refusalOf s ≡ n → describedOf s ≡ refused n
+  unfolding describedOf
+  described-refused n h e = rw (e, ne-eqb n 0 (λ (z : n ≡ 0). omega arith))
 
-  pub outcome-found : refusalOf s ≡ 0 → outcomeOf s ≡ found (configurationIn s)
-  unfolding outcomeOf
-  outcome-found e = rw e
+  pub described-found : refusalOf s ≡ 0 → describedOf s ≡ found (configurationIn s)
+  unfolding describedOf
+  described-found e = rw e
 
   -- "Base 2^29 − 1 .. In any window up to 4 GiB it is refused with 10.": of either ring
   pub far-ring : 64 ≤ length s → length s ≤ 2 ^ 32 → signatureRight s ≡ true → FarBase s 8 ⊎ FarBase s 12
@@ -115,12 +115,12 @@ module _ (s : List ℕ) where
       (accepted-or-10 long signed)
 
 -- a configuration that reading has found is allowed in that window
-pub found-allowed : (s : List ℕ) (c : Configuration) → outcomeOf s ≡ found c → allowed (length s) c ≡ true
+pub found-allowed : (s : List ℕ) (c : Configuration) → describedOf s ≡ found c → allowed (length s) c ≡ true
 found-allowed s c e =
     by-cases (ℕ-discrete (refusalOf s) 0)
     (λ (z : refusalOf s ≡ 0).
-    let same : configurationIn s ≡ c = cc (outcome-found s z, e) in
+    let same : configurationIn s ≡ c = cc (described-found s z, e) in
     rw same at (allowed-holds (length s) (configurationIn s) (good s z .places)))
     (λ (n : refusalOf s ≡ 0 → ⊥).
-    let no : _≡_ {A = ℕ} 0 1 = cc (outcome-refused s (refusalOf s) (omega arith) refl, e) in
+    let no : _≡_ {A = ℕ} 0 1 = cc (described-refused s (refusalOf s) (omega arith) refl, e) in
     absurd (omega arith))

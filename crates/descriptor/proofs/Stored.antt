@@ -16,9 +16,9 @@ use Rattle.octets.proofs.Words.{word-back}
 use Rattle.octets.proofs.Below.{below-nil, below-cons, below-append, below-zeros, below-word}
 use Rattle.descriptor.specs.declared.configuration.Configuration.{Configuration}
 use Rattle.descriptor.specs.Configuration.{onUnits, allowed}
-use Rattle.descriptor.specs.Descriptor.{signatureRight, baseAt, configurationIn, found, outcomeOf}
+use Rattle.descriptor.specs.Descriptor.{signatureRight, baseAt, configurationIn, found, describedOf}
 use Rattle.descriptor.proofs.Configurations.{allowed-facts}
-use Rattle.descriptor.proofs.Refusals.{refusal-none, outcome-found}
+use Rattle.descriptor.proofs.Refusals.{refusal-none, described-found}
 
 unit : (n : ℕ) → n * 8 % 8 ≡ 0
 unit n = omega arith
@@ -119,16 +119,16 @@ module _ (n : ℕ) (c : Configuration) where
           rws = rws i;
         }
 
-    for-outcome : outcomeOf (windowFor n c) ≡ found c
+    for-described : describedOf (windowFor n c) ≡ found c
     unfolding windowFor words signatureRight wordBytes
-    for-outcome =
+    for-described =
         let long : 64 ≤ n = allowed-facts n c ok .descriptor in
         let size : length (windowFor n c) ≡ n = for-length (omega arith) in
         let same : allowed (length (windowFor n c)) (configurationIn (windowFor n c)) ≡ true =
         rw (size, for-configuration) ok in
-        outcome-found _ (refusal-none _ (rw size long) refl refl refl same) ∙ ap found for-configuration
+        described-found _ (refusal-none _ (rw size long) refl refl refl same) ∙ ap found for-configuration
 
     -- it has n bytes, and its descriptor gives this configuration
-    pub given-by-a-descriptor : (s : List ℕ) × (length s ≡ n) × Below 256 s × (outcomeOf s ≡ found c)
+    pub given-by-a-descriptor : (s : List ℕ) × (length s ≡ n) × Below 256 s × (describedOf s ≡ found c)
     given-by-a-descriptor =
-        (windowFor n c, for-length (omega (arith, allowed-facts n c ok .descriptor)), for-bytes, for-outcome)
+        (windowFor n c, for-length (omega (arith, allowed-facts n c ok .descriptor)), for-bytes, for-described)

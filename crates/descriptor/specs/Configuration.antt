@@ -8,8 +8,8 @@ use Rattle.octets.specs.Choice.{within}
 use Rattle.descriptor.specs.Places.{endOf, liesIn, apart, Apart}
 use Rattle.descriptor.specs.declared.place.Place.{Place}
 use Rattle.descriptor.specs.declared.configuration.Configuration.{Configuration}
-use Rattle.descriptor.specs.declared.configuration.Part.{Part}
-use Rattle.descriptor.specs.declared.configuration.Part.the-variants.{B2h, H2b, Ros, Rws}
+use Rattle.descriptor.specs.declared.configuration.Area.{Area}
+use Rattle.descriptor.specs.declared.configuration.Area.the-variants.{B2h, H2b, Ros, Rws}
 
 -- "The descriptor stands at the window's front."; Table 1 ends at byte 63
 abbrev pub descriptorPlace : Place
@@ -20,14 +20,14 @@ abbrev pub structureAt : ℕ → Place
 structureAt o = record { offset = o; length = 8 }
 
 -- where each part lies by the configuration alone
-abbrev pub partPlace : Configuration → Part → Place
-partPlace c B2h = c .b2h
-partPlace c H2b = c .h2b
-partPlace c Ros = structureAt (c .ros)
-partPlace c Rws = structureAt (c .rws)
+abbrev pub areaPlace : Configuration → Area → Place
+areaPlace c B2h = c .b2h
+areaPlace c H2b = c .h2b
+areaPlace c Ros = structureAt (c .ros)
+areaPlace c Rws = structureAt (c .rws)
 
 -- the two rings among the parts
-abbrev pub isRing : Part → Bool
+abbrev pub isRing : Area → Bool
 isRing B2h = true
 isRing H2b = true
 isRing Ros = false

@@ -55,12 +55,12 @@ refusalOf s =
     (pick (not (allowed (length s) (configurationIn s))) 10 0))))
 
 -- what reading gives: a configuration, or a refusal's number
-pub data Outcome : Type 0 where
-  found : Configuration → Outcome
-  refused : ℕ → Outcome
+pub data Described : Type 0 where
+  found : Configuration → Described
+  refused : ℕ → Described
 
-unfoldable pub outcomeOf : List ℕ → Outcome
-outcomeOf s = pick (eqb (refusalOf s) 0) (found (configurationIn s)) (refused (refusalOf s))
+unfoldable pub describedOf : List ℕ → Described
+describedOf s = pick (eqb (refusalOf s) 0) (found (configurationIn s)) (refused (refusalOf s))
 
 -- what makes a descriptor good
 pub record Good (s : List ℕ) : Type 0 where

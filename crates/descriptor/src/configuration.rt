@@ -3,7 +3,7 @@ use crate::place::Place;
 use crate::place::are_apart;
 use crate::place::lies_in;
 ghost use mathlib.Core.Path.{_≡_};
-ghost use Rattle.descriptor.specs.Configuration.{structureAt, descriptorPlace, partPlace, ringRight, inside};
+ghost use Rattle.descriptor.specs.Configuration.{structureAt, descriptorPlace, areaPlace, ringRight, inside};
 ghost use Rattle.descriptor.specs.Configuration.{clear, onUnits, allowed};
 
 // B2H and H2B are the rings from the controller to the host and back; `ros` and `rws` are the offsets of Host_ROS and
@@ -16,7 +16,7 @@ pub struct Configuration {
 }
 
 // What lies in the window besides the descriptor.
-pub enum Part {
+pub enum Area {
     B2h,
     H2b,
     Ros,
@@ -39,14 +39,14 @@ fn descriptor() -> Place
 }
 
 // Where this part lies by the configuration alone.
-pub fn part_place(c: Configuration, which: Part) -> Place
-    ensures { λ r. ⌜ r ≡ partPlace c which ⌝ }
+pub fn area_place(c: Configuration, which: Area) -> Place
+    ensures { λ r. ⌜ r ≡ areaPlace c which ⌝ }
 {
     match which {
-        Part::B2h => c.b2h,
-        Part::H2b => c.h2b,
-        Part::Ros => structure_at(c.ros),
-        Part::Rws => structure_at(c.rws),
+        Area::B2h => c.b2h,
+        Area::H2b => c.h2b,
+        Area::Ros => structure_at(c.ros),
+        Area::Rws => structure_at(c.rws),
     }
 }
 

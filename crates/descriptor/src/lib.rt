@@ -3,10 +3,10 @@ mod configuration;
 mod place;
 mod reading;
 
+pub use configuration::Area;
 pub use configuration::Configuration;
-pub use configuration::Part;
+pub use configuration::area_place;
 pub use configuration::is_allowed;
-pub use configuration::part_place;
 pub use place::Place;
 pub use place::end;
 pub use reading::Configured;

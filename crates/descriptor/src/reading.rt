@@ -5,7 +5,7 @@ use crate::place::Place;
 use mctp::Refusal;
 ghost use mathlib.Core.Path.{_≡_};
 ghost use Rattle.descriptor.specs.Descriptor.{signatureRight, versionRight, typeRight, baseAt, configurationIn};
-ghost use Rattle.descriptor.specs.Descriptor.{outcomeOf};
+ghost use Rattle.descriptor.specs.Descriptor.{describedOf};
 ghost use Rattle.descriptor.specs.Answers.{says};
 
 pub enum Configured {
@@ -14,7 +14,7 @@ pub enum Configured {
 }
 
 pub fn read_descriptor(window: &[u8]) -> Configured
-    ensures { λ r. ⌜ says r ≡ outcomeOf (now (window .entry)) ⌝ }
+    ensures { λ r. ⌜ says r ≡ describedOf (now (window .entry)) ⌝ }
 {
     if window.len() < 64 {
         return Configured::Refused(Refusal::Signature);

@@ -18,7 +18,7 @@ pub fn read(own: u8) {
     let mut frame = [0u8; 10];
     make(&mut frame);
     let size = smbus::packet(&frame, own).len();
-    let carried = smbus::carried(&frame, own);
+    let carried = smbus::read(&frame, own);
     match carried {
         Carried::Packet { source } => {
             text::put_number(b"good, packet of ", size);

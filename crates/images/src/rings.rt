@@ -1,8 +1,9 @@
 // The bytes of the MMBI ring, all FF before a packet is written.
 use crate::text;
 use mmbi::Flags;
-use ring::Put;
-use ring::Taken;
+use mmbi::Pointers;
+use ring::Carried;
+use ring::Written;
 
 // 1010, 1011, 1110 and 1111.
 pub const RUNNING: Flags = Flags {
@@ -33,17 +34,17 @@ pub const ACKNOWLEDGED: Flags = Flags {
     host_reset: true,
 };
 
-fn store(bytes: &mut [u8], read: usize, write: usize, flags: Flags) -> Put {
+fn store(bytes: &mut [u8], read: usize, write: usize, flags: Flags) -> Written {
     let packet = crate::ORDER;
-    ring::write(bytes, 128, flags, read, write, &packet)
+    ring::write(bytes, 128, flags, Pointers { read, write }, &packet)
 }
 
 pub fn write(read: usize, write: usize, flags: Flags) {
     let mut bytes = [0xFFu8; 128];
     let stored = store(&mut bytes, read, write, flags);
     match stored {
-        Put::Refused(why) => text::refused(why),
-        Put::Stored(next) => text::put_number(b"good, new write pointer ", next),
+        Written::Refused(why) => text::refused(why),
+        Written::Stored(next) => text::put_number(b"good, new write pointer ", next),
     }
 }
 
@@ -59,19 +60,19 @@ pub fn read(pointer: usize, read: usize, write: usize, flags: Flags) {
     let mut bytes = [0xFFu8; 128];
     store(&mut bytes, pointer, pointer, RUNNING);
     let mut packet = [0u8; 68];
-    let taken = ring::read(&bytes, 128, flags, read, write, &mut packet);
-    tell(taken, &packet);
+    let carried = ring::read(&bytes, 128, flags, Pointers { read, write }, &mut packet);
+    tell(carried, &packet);
 }
 
-fn tell(taken: Taken, packet: &[u8]) {
-    match taken {
-        Taken::Empty => text::put(b"empty"),
-        Taken::Refused(why) => text::refused(why),
-        Taken::Skipped(why, next) => {
+fn tell(carried: Carried, packet: &[u8]) {
+    match carried {
+        Carried::Empty => text::put(b"empty"),
+        Carried::Refused(why) => text::refused(why),
+        Carried::Skipped(why, next) => {
             text::refused(why);
             tell_next(next);
         }
-        Taken::Packet(size, next) => {
+        Carried::Packet(size, next) => {
             text::put(b"good, packet");
             text::show(packet, 0, size);
             tell_next(next);

@@ -1,9 +1,9 @@
 // What lies in the window by the descriptor: rings, structures and words.
 use crate::descriptors;
 use crate::text;
+use descriptor::Area;
 use descriptor::Configuration;
 use descriptor::Configured;
-use descriptor::Part;
 use mmbi::InterfaceState;
 use mmbi::Word;
 use window::Interface;
@@ -29,23 +29,27 @@ fn store(window: &mut [u8], c: Configuration) {
     window::store(window, c, Pointer::H2bRead, word(0, false, true));
 }
 
-fn word(pointer: usize, high: bool, low: bool) -> Word {
-    Word { pointer, high, low }
+fn word(pointer: usize, bit1: bool, bit0: bool) -> Word {
+    Word {
+        pointer,
+        bit1,
+        bit0,
+    }
 }
 
 fn show_part(window: &[u8], c: Configuration, place: u8) {
     match place {
-        0xD0 => tell_place(window, c, Part::B2h),
-        0xD1 => tell_place(window, c, Part::H2b),
-        0xD2 => tell_place(window, c, Part::Ros),
-        0xD3 => tell_place(window, c, Part::Rws),
-        0xE0 => text::show(window::cut(window, c, Part::Rws), 0, 8),
-        0xE1 => text::show(window::cut(window, c, Part::Ros), 0, 8),
-        _ => tell(window::look(window, c), place),
+        0xD0 => tell_place(window, c, Area::B2h),
+        0xD1 => tell_place(window, c, Area::H2b),
+        0xD2 => tell_place(window, c, Area::Ros),
+        0xD3 => tell_place(window, c, Area::Rws),
+        0xE0 => text::show(window::area(window, c, Area::Rws), 0, 8),
+        0xE1 => text::show(window::area(window, c, Area::Ros), 0, 8),
+        _ => tell(window::interface_of(window, c), place),
     }
 }
 
-fn tell_place(window: &[u8], c: Configuration, which: Part) {
+fn tell_place(window: &[u8], c: Configuration, which: Area) {
     let place = window::place_of(window, c, which);
     text::show_number(place.length as usize);
     text::put_number(b" bytes from byte ", place.offset as usize);

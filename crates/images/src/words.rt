@@ -40,7 +40,7 @@ fn lay_words(window: &mut [u8], place: u8) {
 
 fn tell(window: &mut [u8], c: Configuration, place: u8) {
     match place {
-        0xF8 => tell_pointers(window::look(window, c)),
+        0xF8 => tell_pointers(window::interface_of(window, c)),
         0xF9 => tell_store(window, c, Pointer::H2bWrite, 252),
         0xFA => tell_store(window, c, Pointer::B2hRead, 124),
         0xFB => tell_store(window, c, Pointer::B2hWrite, 124),
@@ -48,7 +48,7 @@ fn tell(window: &mut [u8], c: Configuration, place: u8) {
         0xFD => tell_store(window, c, Pointer::H2bWrite, 254),
         0xFE => tell_store(window, c, Pointer::H2bWrite, 256),
         0xFF => tell_store(window, c, Pointer::B2hWrite, 128),
-        _ => tell_flags(window::look(window, c)),
+        _ => tell_flags(window::interface_of(window, c)),
     }
 }
 
@@ -73,8 +73,8 @@ fn tell_pointers(seen: Interface) {
 fn tell_store(window: &mut [u8], c: Configuration, which: Pointer, pointer: usize) {
     let word = Word {
         pointer,
-        high: true,
-        low: true,
+        bit1: true,
+        bit0: true,
     };
     let number = window::store(window, c, which, word);
     if number == 0 {

@@ -11,6 +11,8 @@ use Rattle.mctp.proofs.eid.Eid.is_null.Reads as is-null
 use Rattle.mctp.proofs.eid.Eid.is_broadcast.Reads as is-broadcast
 use Rattle.mctp.proofs.eid.Eid.is_reserved.Reads as is-reserved
 use Rattle.mctp.proofs.eid.Eid.is_endpoint.Reads as is-endpoint
+use Rattle.mctp.proofs.packet.body_right.Reads as body-right
+use Rattle.mctp.proofs.packet.size_right.Reads as size-right
 use Rattle.mctp.proofs.packet.key_of.Reads as key-of
 use Rattle.mctp.proofs.packet.header_of.Reads as header-of
 use Rattle.mctp.proofs.packet.same_key.Reads as same-key
@@ -32,6 +34,14 @@ pub is-endpoint-determined : (κs : Lfts 0) (a : _) (r q : Bool) (e f : _)
     → is-endpoint.Post κs a r e → is-endpoint.Post κs a q f → r ≡ q
 is-endpoint-determined κs a r q e f p o = determined p o
 
+pub body-right-determined : (κs : Lfts 0) (a : _) (r q : Bool) (e f : _)
+    → body-right.Post κs a r e → body-right.Post κs a q f → r ≡ q
+body-right-determined κs a r q e f p o = determined p o
+
+pub size-right-determined : (κs : Lfts 0) (a : _) (r q : Bool) (e f : _)
+    → size-right.Post κs a r e → size-right.Post κs a q f → r ≡ q
+size-right-determined κs a r q e f p o = determined p o
+
 pub key-of-determined : (κs : Lfts 1) (a : _) (r q : Key) (e f : _)
     → key-of.Post κs a r e → key-of.Post κs a q f → r ≡ q
 key-of-determined κs a r q e f p o = determined p o
@@ -52,9 +62,21 @@ pub no-requires : ((κs : Lfts 0) (a : _) → is-null.Pre κs a)
     × ((κs : Lfts 0) (a : _) → is-broadcast.Pre κs a)
     × ((κs : Lfts 0) (a : _) → is-reserved.Pre κs a)
     × ((κs : Lfts 0) (a : _) → is-endpoint.Pre κs a)
+    × ((κs : Lfts 0) (a : _) → body-right.Pre κs a)
+    × ((κs : Lfts 0) (a : _) → size-right.Pre κs a)
     × ((κs : Lfts 1) (a : _) → key-of.Pre κs a)
     × ((κs : Lfts 1) (a : _) → header-of.Pre κs a)
     × ((κs : Lfts 0) (a : _) → same-key.Pre κs a)
     × ((κs : Lfts 0) (a : _) → number.Pre κs a)
-no-requires =
-    ((λ κs a. tt), (λ κs a. tt), (λ κs a. tt), (λ κs a. tt), (λ κs a. tt), (λ κs a. tt), (λ κs a. tt), (λ κs a. tt))
+no-requires = (
+  (λ κs a. tt),
+  (λ κs a. tt),
+  (λ κs a. tt),
+  (λ κs a. tt),
+  (λ κs a. tt),
+  (λ κs a. tt),
+  (λ κs a. tt),
+  (λ κs a. tt),
+  (λ κs a. tt),
+  (λ κs a. tt),
+)

@@ -5,7 +5,7 @@ use mathlib.Core.Bool.{true, false}
 use mathlib.Core.List.{List, [], _∷_, map}
 use Prim.Native.Nat.{ℕ}
 use Rattle.mctp.specs.Eid.{nullEid, broadcastEid, reservedEid, endpointEid}
-use Rattle.mctp.specs.Packet.{versionOf, packetSize, mostRight}
+use Rattle.mctp.specs.Packet.{versionOf, sizeRight, bodyRight}
 use Rattle.mctp.specs.Key.{keyOf, headerOf}
 
 -- `F1 09 0A BD`: BD is 1011 1101, so start and not end, sequence 11, tag owner, tag 101; F is reserved
@@ -54,8 +54,8 @@ pub endpoint-borders : map endpointEid borders ≡ true ∷ false ∷ false ∷ 
 endpoint-borders = refl
 
 -- "5 to 68 in all"
-pub size-borders : map (packetSize 64) (4 ∷ 5 ∷ 68 ∷ 69 ∷ []) ≡ false ∷ true ∷ true ∷ false ∷ []
+pub size-borders : map (sizeRight 64) (4 ∷ 5 ∷ 68 ∷ 69 ∷ []) ≡ false ∷ true ∷ true ∷ false ∷ []
 size-borders = refl
 
-pub most-borders : map mostRight (63 ∷ 64 ∷ 246 ∷ 247 ∷ []) ≡ false ∷ true ∷ true ∷ false ∷ []
+pub most-borders : map bodyRight (63 ∷ 64 ∷ 246 ∷ 247 ∷ []) ≡ false ∷ true ∷ true ∷ false ∷ []
 most-borders = refl

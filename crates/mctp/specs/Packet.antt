@@ -9,13 +9,13 @@ use Rattle.octets.specs.Choice.{within}
 
 -- "A packet is 4 header bytes and a body of 1 to 64 bytes, so 5 to 68 in all (house rule; 64 is the baseline unit)."
 -- The largest body is a number of its own, `most`; the base takes 64.
-abbrev pub packetSize : ℕ → ℕ → Bool
-packetSize most n = within 5 (4 + most) n
+abbrev pub sizeRight : ℕ → ℕ → Bool
+sizeRight most n = within 5 (4 + most) n
 
 -- the largest bodies that a set-up may ask for: 64 is the baseline unit; with 246 an SMBus frame has 9 + 246 = 255
 -- bytes, the most that a record of the bench program holds
-abbrev pub mostRight : ℕ → Bool
-mostRight most = within 64 246 most
+abbrev pub bodyRight : ℕ → Bool
+bodyRight most = within 64 246 most
 
 -- "Byte 0: low four bits version, 1. High four bits reserved, ignored."
 abbrev pub versionOf : List ℕ → ℕ

@@ -1,6 +1,8 @@
 -- Document 01's refusal numbers, one for each name.
 -- Assumes nothing.
 use Prim.Native.Nat.{ℕ}
+use Rattle.mctp.specs.declared.refusal.Outcome.{Outcome}
+use Rattle.mctp.specs.declared.refusal.Outcome.the-variants.{Good, Refused}
 use Rattle.mctp.specs.declared.refusal.Refusal.{Refusal}
 use Rattle.mctp.specs.declared.refusal.Refusal.the-variants.{Setup, Room, Size, Address, Command, Count}
 use Rattle.mctp.specs.declared.refusal.Refusal.the-variants.{SourceBit, Pec, Signature, Descriptor, NotRunning}
@@ -31,3 +33,8 @@ numberOf NoStart = 19
 numberOf Sequence = 20
 numberOf Unit = 21
 numberOf TooLong = 22
+
+-- an outcome's number: 0 where good
+abbrev pub outcomeNumber : Outcome → ℕ
+outcomeNumber Good = 0
+outcomeNumber (Refused refusal) = numberOf refusal

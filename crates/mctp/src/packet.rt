@@ -2,9 +2,27 @@
 use crate::eid::Eid;
 ghost use mathlib.Core.Path.{_≡_};
 ghost use Rattle.mctp.specs.Key.{keyOf, headerOf, sameKey};
+ghost use Rattle.mctp.specs.Packet.{bodyRight, sizeRight};
 
 // "64 is the baseline unit": the largest body of the base.
 pub const LARGEST_BODY: usize = 64;
+
+// Whether a set-up may ask for bodies as large as this.
+pub fn body_right(most: usize) -> bool
+    ensures { λ r. ⌜ r ≡ bodyRight most ⌝ }
+{
+    (64 <= most) & (most <= 246)
+}
+
+// Whether a packet has as many bytes as a carrier takes: "5 to 68 in all", where 68 is 4 + `most`.
+pub fn size_right(most: usize, size: usize) -> bool
+    ensures { λ r. ⌜ r ≡ sizeRight most size ⌝ }
+{
+    if size < 5 {
+        return false;
+    }
+    size - 4 <= most
+}
 
 pub struct Key {
     pub destination: Eid,

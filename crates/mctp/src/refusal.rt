@@ -27,6 +27,12 @@ pub enum Refusal {
     TooLong,
 }
 
+// What a check gives: good, or the refusal.
+pub enum Outcome {
+    Good,
+    Refused(Refusal),
+}
+
 impl Refusal {
     pub fn number(self) -> u8
         ensures { λ r. ⌜ r ≡ numberOf self ⌝ }

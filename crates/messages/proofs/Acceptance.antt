@@ -27,7 +27,7 @@ use Rattle.receiver.specs.Step.{Said, done, Left, stepOf}
 use Rattle.receiver.proofs.Laws.{one-slot}
 use Rattle.messages.specs.Run.{Call, give, free, rules, message, messagesOf, Ran, called, joined, run}
 use Rattle.messages.specs.Message.{Item, part, between, callsOf, bodiesOf, lastOf, partReplies, heldReplies}
-use Rattle.messages.specs.Message.{slotFor, Starts, Follows, Middles, Train, Accepted, AcceptedAlone}
+use Rattle.messages.specs.Message.{slotFor, Starts, Follows, Middles, OneMessage, Accepted, AcceptedAlone}
 use Rattle.messages.proofs.Runs.{run-append, called-one-slot}
 use Rattle.messages.proofs.Gathering.{Gathers, middle-step, middle-gathers, end-step, end-message}
 use Rattle.messages.proofs.Gathering.{between-gathers, start-held, start-done, start-message, start-gathers}
@@ -82,7 +82,7 @@ module _ (most : ℕ) (k : Key) (i unit : ℕ) where
       (between-gathers most r m k i last unit sofar G (free j) (M .0)) (M .1)
 
 module _ (most : ℕ) (r : Receiver) (m first : List ℕ) (items : List Item) (final : List ℕ)
-    (T : Train most r m first items final) where
+    (T : OneMessage most r m first items final) where
   -- the slot, the state after the first packet, and what the middles leave
   abbrev i : ℕ
   i = slotFor (r .slots) (keyOf first)

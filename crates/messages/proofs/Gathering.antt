@@ -33,7 +33,7 @@ use Rattle.decision.specs.Decision.{fromSource, fromPacket, decided}
 use Rattle.decision.proofs.Checks.{packet-good, unless-good}
 use Rattle.decision.proofs.Cases.{ruled-start, ruled-follow}
 use Rattle.decision.proofs.Decided.{every-decision}
-use Rattle.receiver.specs.Step.{refused, held, done, Left, carried, stepOf}
+use Rattle.receiver.specs.Step.{refused, held, done, Left, carriedOut, stepOf}
 use Rattle.receiver.proofs.Laid.{part-grown}
 use Rattle.receiver.proofs.Laws.{step-right, one-slot, refused-unchanged}
 use Rattle.messages.specs.Run.{Call, give, free, message, called}
@@ -117,7 +117,7 @@ module _ (most : ℕ) (r : Receiver) (m : List ℕ) (k : Key) (i last unit : ℕ
   middle-step e =
       let then = after-middle p unit (length sofar + length (bodyOf p)) e
       ∙ ap (λ (j : Key). Gathering j (sequenceOf p) unit (length sofar + length (bodyOf p))) (F .key) in
-      ap (carried r m p) (appended ∙ ap (put i (length sofar) false) then)
+      ap (carriedOut r m p) (appended ∙ ap (put i (length sofar) false) then)
 
   -- an end: done, with their total, and the slot is free
   pub end-step : endOf p ≡ true → stepOf most r m p
@@ -128,7 +128,7 @@ module _ (most : ℕ) (r : Receiver) (m : List ℕ) (k : Key) (i last unit : ℕ
       }
   unfolding stepOf
   end-step e =
-      ap (carried r m p) (appended ∙ ap (put i (length sofar) false)
+      ap (carriedOut r m p) (appended ∙ ap (put i (length sofar) false)
       (after-end p unit (length sofar + length (bodyOf p)) e))
 
   -- the bytes of the message that is done: the bodies joined, in order
@@ -179,8 +179,8 @@ module _ (most : ℕ) (r : Receiver) (m : List ℕ) (k : Key) (i last unit : ℕ
       (λ (n : ℕ). isFree (slotAt (r .slots) n) || hasKey (keyOf p) (slotAt (r .slots) n)) (sym s)
       ∙ ap (λ (x : SlotState). isFree x || hasKey (keyOf p) x) (G .state) ∙ o) in
       every-decision most r (length m) p
-      (λ d. (slotAt (carried r m p d .receiver .slots) i ≡ slotAt (r .slots) i)
-      × (message (carried r m p d .memory) i (length sofar) ≡ message m i (length sofar)))
+      (λ d. (slotAt (carriedOut r m p d .receiver .slots) i ≡ slotAt (r .slots) i)
+      × (message (carriedOut r m p d .memory) i (length sofar) ≡ message m i (length sofar)))
       (λ n low high. (refl, refl))
       (λ e j n h low high c. (slot-other (r .slots) j i Free (apart j c), refl))
       (λ e s j at again then f. (
@@ -263,7 +263,7 @@ module _ (most : ℕ) (r : Receiver) (m p : List ℕ) (right : rightState most r
   start-held e =
       let i = slotFor (r .slots) (keyOf p) in
       let again = ltb (slotOf (r .slots) (keyOf p)) 4 in
-      ap (carried r m p) (begun ∙ ap (put i 0 again) (after-middle p (length (bodyOf p)) (length (bodyOf p)) e))
+      ap (carriedOut r m p) (begun ∙ ap (put i 0 again) (after-middle p (length (bodyOf p)) (length (bodyOf p)) e))
       ∙ ap (λ (n : ℕ). record {
         said = held i n again;
         receiver = withState r i (Gathering (keyOf p) (sequenceOf p) (length (bodyOf p)) (length (bodyOf p)));
@@ -280,7 +280,7 @@ module _ (most : ℕ) (r : Receiver) (m p : List ℕ) (right : rightState most r
   start-done e =
       let i = slotFor (r .slots) (keyOf p) in
       let again = ltb (slotOf (r .slots) (keyOf p)) 4 in
-      ap (carried r m p) (begun ∙ ap (put i 0 again) (after-end p (length (bodyOf p)) (length (bodyOf p)) e))
+      ap (carriedOut r m p) (begun ∙ ap (put i 0 again) (after-end p (length (bodyOf p)) (length (bodyOf p)) e))
       ∙ ap (λ (n : ℕ). record {
         said = done i n again;
         receiver = withState r i Free;

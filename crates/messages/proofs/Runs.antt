@@ -25,7 +25,7 @@ use Rattle.slots.proofs.States.{slot-other}
 use Rattle.slots.proofs.Kept.{freed-right}
 use Rattle.decision.proofs.Picked.{pick-elim}
 use Rattle.decision.proofs.Decided.{every-decision}
-use Rattle.receiver.specs.Step.{answerOf, carried, stepOf}
+use Rattle.receiver.specs.Step.{answerOf, carriedOut, stepOf}
 use Rattle.receiver.specs.Effects.{OneSlot}
 use Rattle.receiver.proofs.Laid.{laid-before, laid-behind, part-same}
 use Rattle.receiver.proofs.Laws.{step-right, one-slot}
@@ -149,7 +149,7 @@ module _ (most : ℕ) where
   unfolding stepOf
   step-stays r m p i n high e =
       every-decision most r (length m) p
-      (λ d. intoSlot i (carried r m p d .said) ≡ false → message (carried r m p d .memory) i n ≡ message m i n)
+      (λ d. intoSlot i (carriedOut r m p d .said) ≡ false → message (carriedOut r m p d .memory) i n ≡ message m i n)
       (λ k low up s. refl)
       (λ x j k h low up c s. refl)
       (λ x y j at again then f s. slot-apart m i j at (bodyOf p) n

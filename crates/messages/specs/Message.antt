@@ -105,7 +105,7 @@ Middles most k slot r m last unit n (between c ∷ items) =
 
 -- "every list of packets of one key with start first, sequences rising modulo 4, middles of the start's size, an end no
 -- longer", with at most 1,024 bytes in all, from a right state in which the key has a slot or a slot is free
-pub record Train (most : ℕ) (r : Receiver) (m first : List ℕ) (items : List Item) (final : List ℕ) : Type 0 where
+pub record OneMessage (most : ℕ) (r : Receiver) (m first : List ℕ) (items : List Item) (final : List ℕ) : Type 0 where
   pub state : rightState most r ≡ true
   pub memory : length m ≡ 4096
   pub room : slotFor (r .slots) (keyOf first) < 4

@@ -11,6 +11,7 @@ use Rattle.mmbi.proofs.interface.state.Reads as state
 use Rattle.mmbi.proofs.interface.transient.Reads as transient
 use Rattle.mmbi.proofs.interface.may_read.Reads as may-read
 use Rattle.mmbi.proofs.interface.may_write.Reads as may-write
+use Rattle.mmbi.proofs.pointer.length_right.Reads as length-right
 use Rattle.mmbi.proofs.pointer.pointer_right.Reads as pointer-right
 use Rattle.mmbi.proofs.word.Word.of_number.Reads as of-number
 use Rattle.mmbi.proofs.word.Word.number.Reads as number
@@ -38,6 +39,10 @@ of-number-determined κs a r q e f p o = determined p o
 pub number-determined : (κs : Lfts 0) (a : _) (r q : ℕ) (e f : _) → number.Post κs a r e → number.Post κs a q f → r ≡ q
 number-determined κs a r q e f p o = determined p o
 
+pub length-right-determined : (κs : Lfts 0) (a : _) (r q : Bool) (e f : _)
+    → length-right.Post κs a r e → length-right.Post κs a q f → r ≡ q
+length-right-determined κs a r q e f p o = determined p o
+
 pub pointer-right-determined : (κs : Lfts 0) (a : _) (r q : Bool) (e f : _)
     → pointer-right.Post κs a r e → pointer-right.Post κs a q f → r ≡ q
 pointer-right-determined κs a r q e f p o = determined p o
@@ -47,7 +52,9 @@ pub no-requires : ((κs : Lfts 0) (a : _) → state.Pre κs a)
     × ((κs : Lfts 0) (a : _) → transient.Pre κs a)
     × ((κs : Lfts 0) (a : _) → may-read.Pre κs a)
     × ((κs : Lfts 0) (a : _) → may-write.Pre κs a)
+    × ((κs : Lfts 0) (a : _) → length-right.Pre κs a)
     × ((κs : Lfts 0) (a : _) → pointer-right.Pre κs a)
     × ((κs : Lfts 0) (a : _) → of-number.Pre κs a)
     × ((κs : Lfts 0) (a : _) → number.Pre κs a)
-no-requires = ((λ κs a. tt), (λ κs a. tt), (λ κs a. tt), (λ κs a. tt), (λ κs a. tt), (λ κs a. tt), (λ κs a. tt))
+no-requires =
+    ((λ κs a. tt), (λ κs a. tt), (λ κs a. tt), (λ κs a. tt), (λ κs a. tt), (λ κs a. tt), (λ κs a. tt), (λ κs a. tt))

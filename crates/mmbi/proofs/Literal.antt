@@ -22,11 +22,11 @@ numbers = 1 ∷ 2 ∷ 0x01020304 ∷ 0xFFFFFFFD ∷ 0xFFFE ∷ []
 
 abbrev read : List Word
 read =
-    record { pointer = 0; high = false; low = true }
-    ∷ record { pointer = 0; high = true; low = false }
-    ∷ record { pointer = 16909060; high = false; low = false }
-    ∷ record { pointer = 4294967292; high = false; low = true }
-    ∷ record { pointer = 65532; high = true; low = false }
+    record { pointer = 0; bit1 = false; bit0 = true }
+    ∷ record { pointer = 0; bit1 = true; bit0 = false }
+    ∷ record { pointer = 16909060; bit1 = false; bit0 = false }
+    ∷ record { pointer = 4294967292; bit1 = false; bit0 = true }
+    ∷ record { pointer = 65532; bit1 = true; bit0 = false }
     ∷ []
 
 pub words-read : map wordOf numbers ≡ read
@@ -38,7 +38,7 @@ unfolding numberOf
 words-written = refl
 
 -- what has no place in the word: bits 1 and 0 of a pointer, and its bits from 32 on
-pub pointer-cut : numberOf (record { pointer = 0x10000000B; high = false; low = true }) ≡ 9
+pub pointer-cut : numberOf (record { pointer = 0x10000000B; bit1 = false; bit0 = true }) ≡ 9
 unfolding numberOf
 pointer-cut = refl
 

@@ -11,7 +11,7 @@ use borrow.Author.Tests.{eq-eqb, ne-eqb}
 use lib.Dec.{eqb}
 use Rattle.octets.specs.Choice.{pick}
 use Rattle.mmbi.specs.declared.word.Word.{Word}
-use Rattle.mmbi.specs.Words.{pointerIn, highIn, lowIn, wordOf, numberOf}
+use Rattle.mmbi.specs.Words.{pointerIn, bit1In, bit0In, wordOf, numberOf}
 
 -- the number that is one bit, tested and written
 is-set : (x : ℕ) (a : Bool) → x ≡ pick a 1 0 → eqb x 1 ≡ a
@@ -55,21 +55,21 @@ number-back n h =
     rw (pointer, bit-worth (n / 2 % 2) 2 (omega arith), bit-worth (n % 2) 1 (omega arith)) (omega arith)
 
 -- whatever the pointer, no flag is lost
-pub flags-kept : (w : Word) → (highIn (numberOf w) ≡ w .high) × (lowIn (numberOf w) ≡ w .low)
+pub flags-kept : (w : Word) → (bit1In (numberOf w) ≡ w .bit1) × (bit0In (numberOf w) ≡ w .bit0)
 unfolding numberOf
 flags-kept w =
     let q = w .pointer / 4 % 1073741824 in
-    (is-set _ (w .high) (high-back q (w .high) (w .low)), is-set _ (w .low) (low-back q (w .high) (w .low)))
+    (is-set _ (w .bit1) (high-back q (w .bit1) (w .bit0)), is-set _ (w .bit0) (low-back q (w .bit1) (w .bit0)))
 
 -- a word put together and taken apart is that word, where its pointer is a multiple of 4 of 32 bits
 pub word-back : (w : Word) → w .pointer % 4 ≡ 0 → w .pointer < 2 ^ 32 → wordOf (numberOf w) ≡ w
 unfolding wordOf numberOf
 word-back w h k =
-    let pointer : pointerIn (numberOf w) ≡ w .pointer = pointer-back (w .pointer / 4 % 1073741824) (w .high) (w .low)
+    let pointer : pointerIn (numberOf w) ≡ w .pointer = pointer-back (w .pointer / 4 % 1073741824) (w .bit1) (w .bit0)
     ∙ omega arith in
-    let high : highIn (numberOf w) ≡ w .high = flags-kept w .0 in
-    let low : lowIn (numberOf w) ≡ w .low = flags-kept w .1 in
-    λ i. record { pointer = pointer i; high = high i; low = low i }
+    let bit1 : bit1In (numberOf w) ≡ w .bit1 = flags-kept w .0 in
+    let bit0 : bit0In (numberOf w) ≡ w .bit0 = flags-kept w .1 in
+    λ i. record { pointer = pointer i; bit1 = bit1 i; bit0 = bit0 i }
 
 -- a pointer out of a word is a multiple of 4, and a word put together has 32 bits
 pub pointer-aligned : (n : ℕ) → wordOf n .pointer % 4 ≡ 0
@@ -78,7 +78,7 @@ pointer-aligned n = omega arith
 
 pub number-below : (w : Word) → numberOf w < 2 ^ 32
 unfolding numberOf
-number-below w = below (w .high) (w .low)
+number-below w = below (w .bit1) (w .bit0)
   where
     below : (a b : Bool) → w .pointer / 4 % 1073741824 * 4 + pick a 2 0 + pick b 1 0 < 2 ^ 32
     below true true = omega arith

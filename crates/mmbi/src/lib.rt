@@ -9,5 +9,7 @@ pub use interface::may_read;
 pub use interface::may_write;
 pub use interface::state;
 pub use interface::transient;
+pub use pointer::Pointers;
+pub use pointer::length_right;
 pub use pointer::pointer_right;
 pub use word::Word;

@@ -4,12 +4,12 @@ ghost use Prim.Native.Nat.{_≤_};
 ghost use Rattle.octets.specs.Choice.{pick};
 ghost use Rattle.mmbi.specs.Words.{wordOf, numberOf};
 
-// The pointer is a byte offset; `high` is bit 1 of the word (H_UP, B_UP, or reserved), `low` bit 0 (H_RST, B_RST, H_RDY
+// The pointer is a byte offset; `bit1` is bit 1 of the word (H_UP, B_UP, or reserved), `bit0` bit 0 (H_RST, B_RST, H_RDY
 // or B_RDY).
 pub struct Word {
     pub pointer: usize,
-    pub high: bool,
-    pub low: bool,
+    pub bit1: bool,
+    pub bit0: bool,
 }
 
 impl Word {
@@ -19,8 +19,8 @@ impl Word {
     {
         Word {
             pointer: (n / 4 * 4) as usize,
-            high: n / 2 % 2 == 1,
-            low: n % 2 == 1,
+            bit1: n / 2 % 2 == 1,
+            bit0: n % 2 == 1,
         }
     }
 
@@ -28,7 +28,7 @@ impl Word {
     pub fn number(self) -> u32
         ensures { λ r. ⌜ r ≡ numberOf self ⌝ }
     {
-        (self.pointer / 4 % 1073741824 * 4) as u32 + bit(self.high, 2) + bit(self.low, 1)
+        (self.pointer / 4 % 1073741824 * 4) as u32 + bit(self.bit1, 2) + bit(self.bit0, 1)
     }
 }
 

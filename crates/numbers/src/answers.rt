@@ -4,8 +4,8 @@ use crate::packets::give;
 use crate::text::refused;
 use crate::text::say;
 use crate::text::tell;
+use mctp::Outcome;
 use receiver::Answer;
-use slots::Outcome;
 
 // The answer to a packet after a script.
 pub fn tell_after(size: usize, script: &[u8], last: usize, byte: u8) {

@@ -18,7 +18,7 @@ pub fn read(count: u8) {
 }
 
 fn tell_read(frame: &[u8]) {
-    let carried = smbus::carried(frame, 32);
+    let carried = smbus::read(frame, 32);
     match carried {
         Carried::Refused(why) => refused(why),
         Carried::Packet { source } => {

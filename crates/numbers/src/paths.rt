@@ -4,11 +4,12 @@ use crate::packets::ORDER;
 use crate::packets::fresh;
 use crate::states::flags;
 use crate::text::say;
+use mmbi::Pointers;
 use rack::Arrived;
 
 fn tell_arrived(arrived: Arrived) {
     match arrived {
-        Arrived::Given { known: _, answer } => tell_answer(answer),
+        Arrived::Given { beside: _, answer } => tell_answer(answer),
         Arrived::Nothing { why: _ } => say(b"no packet"),
     }
 }
@@ -18,8 +19,8 @@ pub fn tell_smbus() {
     let mut frame = [0u8; 10];
     smbus::write(&mut frame, &packet, 32, 17);
     let mut memory = [0u8; 4096];
-    let outcome = rack::from_smbus(&frame, 32, fresh(), &mut memory);
-    let arrived = outcome.arrived;
+    let received = rack::from_smbus(&frame, 32, fresh(), &mut memory);
+    let arrived = received.arrived;
     tell_arrived(arrived);
 }
 
@@ -28,8 +29,8 @@ pub fn tell_pcc() {
     let mut region = [0u8; 84];
     pcc::write(&mut region, 3, true, &packet);
     let mut memory = [0u8; 4096];
-    let outcome = rack::from_pcc(&region, 3, fresh(), &mut memory);
-    let arrived = outcome.arrived;
+    let received = rack::from_pcc(&region, 3, fresh(), &mut memory);
+    let arrived = received.arrived;
     tell_arrived(arrived);
 }
 
@@ -37,19 +38,19 @@ pub fn tell_ring() {
     let packet = ORDER;
     let running = flags(true, false, true, false);
     let mut bytes = [0u8; 128];
-    ring::write(&mut bytes, 128, running, 0, 0, &packet);
+    let empty = Pointers { read: 0, write: 0 };
+    ring::write(&mut bytes, 128, running, empty, &packet);
     let mut space = [0u8; 68];
     let mut memory = [0u8; 4096];
-    let outcome = rack::from_ring(
+    let received = rack::from_ring(
         &bytes,
         128,
         running,
-        0,
-        12,
+        Pointers { read: 0, write: 12 },
         &mut space,
         fresh(),
         &mut memory,
     );
-    let arrived = outcome.arrived;
+    let arrived = received.arrived;
     tell_arrived(arrived);
 }

@@ -11,7 +11,7 @@ pub fn read(length: u32) {
     let mut region = [0u8; 84];
     pcc::write(&mut region, 3, false, &packet);
     octets::lay_low_first(&mut region, 8, length);
-    tell_carried(pcc::carried(&region, 3));
+    tell_carried(pcc::read(&region, 3));
 }
 
 fn tell_carried(carried: Carried) {

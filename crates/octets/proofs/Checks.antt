@@ -53,12 +53,14 @@ none-failing ((a unless false) ∷ order) last h = absurd (true≢false (sym (h 
 pub all-hold : {A : Type 0} (good : A → Bool) (order : List (Check A)) (last : A)
     → apart good order ≡ true → good (firstFailing order last) ≡ true → Hold order
 all-hold good [] last away e = tt
-all-hold good ((a unless true) ∷ order) last away e = (refl, all-hold good order last (both _ _ away .1) e)
-all-hold good ((a unless false) ∷ order) last away e = absurd (true≢false (sym (both _ _ away .0) ∙ gone (good a) e))
+all-hold good ((a unless true) ∷ order) last away e =
+    (refl, all-hold good order last (both (not (good a)) (apart good order) away .1) e)
+all-hold good ((a unless false) ∷ order) last away e =
+    absurd (true≢false (sym (both (not (good a)) (apart good order) away .0) ∙ gone (good a) e))
   where
     gone : (t : Bool) → t ≡ true → not t ≡ false
     gone true h = refl
-    gone false h = h
+    gone false h = absurd (true≢false (sym h))
 
 -- a number within two bounds, as one sum that `omega` reads: how far it lies below, and how far above
 pub within-true : (low high n : ℕ) → within low high n ≡ true → (low - n) + (n - high) ≡ 0
@@ -71,8 +73,8 @@ pub within-false : (low high n : ℕ) → within low high n ≡ false → 0 < (l
 within-false low high n e =
     by-cases (decLe low n)
     (λ (h : low ≤ n). by-cases (decLe n high)
-      (λ (k : n ≤ high). absurd (true≢false (sym (within-holds low high n h k) ∙ e)))
-      (λ (k : n ≤ high → ⊥). omega arith))
+    (λ (k : n ≤ high). absurd (true≢false (sym (within-holds low high n h k) ∙ e)))
+    (λ (k : n ≤ high → ⊥). omega arith))
     (λ (h : low ≤ n → ⊥). omega arith)
 
 pub not-within : (low high n : ℕ) → 0 < (low - n) + (n - high) → within low high n ≡ false
@@ -83,5 +85,20 @@ not-within low high n e =
 
 -- the tests of check orders, both ways
 pub ruleset tests = (
-  ltb-true, ltb-false, leb-true, leb-false, eqb-true, eqb-false, within-true, within-false,
-  lt-ltb, le-ltb, le-leb, lt-leb, eq-eqb, ne-eqb, is-within, not-within)
+  ltb-true,
+  ltb-false,
+  leb-true,
+  leb-false,
+  eqb-true,
+  eqb-false,
+  within-true,
+  within-false,
+  lt-ltb,
+  le-ltb,
+  le-leb,
+  lt-leb,
+  eq-eqb,
+  ne-eqb,
+  is-within,
+  not-within,
+)

@@ -4,6 +4,8 @@ use mathlib.Core.Path.{_≡_}
 use Prim.Native.Nat.{ℕ}
 use contract.Lifetimes.{Lfts}
 use Rattle.octets.proofs.Choice.{determined}
+use mathlib.Core.List.{List}
+use Rattle.octets.proofs.read.part.Reads as part
 use Rattle.octets.proofs.read.byte_at.Reads as byte-at
 use Rattle.octets.proofs.word.word_low_first.Reads as word-low-first
 use Rattle.octets.proofs.word.word_high_first.Reads as word-high-first
@@ -23,6 +25,10 @@ word-low-first-determined κs a r q e f p o = determined p o
 pub word-high-first-determined : (κs : Lfts 1) (a : _) (r q : ℕ) (e f : _)
     → word-high-first.Post κs a r e → word-high-first.Post κs a q f → r ≡ q
 word-high-first-determined κs a r q e f p o = determined p o
+
+-- the part shows the same bytes; where it lies is not said
+pub part-determined : (κs : Lfts 1) (a r q e f : _) → part.Post κs a r e → part.Post κs a q f → r .now ≡ q .now
+part-determined κs a r q e f p o = determined p o
 
 -- Of the calls that lay bytes: the whole list at exit.
 pub lay-byte-determined : (κs : Lfts 1) (a r q e f : _)
@@ -44,8 +50,10 @@ lay-high-first-determined κs a r q e f p o = determined p o
 pub no-requires : ((κs : Lfts 1) (a : _) → byte-at.Pre κs a)
     × ((κs : Lfts 1) (a : _) → word-low-first.Pre κs a)
     × ((κs : Lfts 1) (a : _) → word-high-first.Pre κs a)
+    × ((κs : Lfts 1) (a : _) → part.Pre κs a)
     × ((κs : Lfts 1) (a : _) → lay-byte.Pre κs a)
     × ((κs : Lfts 2) (a : _) → lay.Pre κs a)
     × ((κs : Lfts 1) (a : _) → lay-low-first.Pre κs a)
     × ((κs : Lfts 1) (a : _) → lay-high-first.Pre κs a)
-no-requires = ((λ κs a. tt), (λ κs a. tt), (λ κs a. tt), (λ κs a. tt), (λ κs a. tt), (λ κs a. tt), (λ κs a. tt))
+no-requires =
+    ((λ κs a. tt), (λ κs a. tt), (λ κs a. tt), (λ κs a. tt), (λ κs a. tt), (λ κs a. tt), (λ κs a. tt), (λ κs a. tt))

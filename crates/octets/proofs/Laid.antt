@@ -34,10 +34,10 @@ laid-four l at a b c d =
     rw (one, two, three)
 
 -- a turn of the loop that copies
-pub laid-turn : (l : List ℕ) (at : ℕ) (new : List ℕ) (i : ℕ) → i < length new
+pub laid-next : (l : List ℕ) (at : ℕ) (new : List ℕ) (i : ℕ) → i < length new
     → set (laid l at (take i new)) (at + i) (getD new i 0) ≡ laid l at (take (suc i) new)
 unfolding laid
-laid-turn l at new i h =
+laid-next l at new i h =
     sym
     (ap (laid l at) (take-suc new i 0 h)
     ∙ laid-append l at (take i new) (getD new i 0 ∷ [])

@@ -1,6 +1,7 @@
 pub mod Laid
 pub mod Words
 pub mod Choice
+pub mod Checks
 pub mod Below
 pub mod Determined
 pub mod Literal

@@ -3,11 +3,15 @@
 use mathlib.Core.Path.{_≡_, refl}
 use mathlib.Core.List.{List, [], _∷_}
 use Prim.Native.Nat.{ℕ}
-use Rattle.octets.specs.Bytes.{laid}
+use Rattle.octets.specs.Bytes.{part, laid}
 use Rattle.octets.specs.Words.{lowFirst, highFirst, wordAt, wordBytes}
 
 abbrev five : List ℕ
 five = 0xFF ∷ 1 ∷ 2 ∷ 3 ∷ 4 ∷ []
+
+-- two bytes from place 3 on; of three from place 4 on the one that there is; none past the end
+pub parts : (part five 3 2 ≡ 3 ∷ 4 ∷ []) × (part five 4 3 ≡ 4 ∷ []) × (part five 5 1 ≡ [])
+parts = (refl, refl, refl)
 
 -- lowest byte first
 pub low-read : wordAt lowFirst five 1 ≡ 0x04030201

@@ -5,7 +5,6 @@ use mathlib.Core.List.{List, [], _∷_}
 use Rattle.octets.specs.Choice.{pick}
 
 infix 68 _unless_
-
 -- this answer, unless the test holds
 pub data Check (A : Type 0) : Type 0 where
   _unless_ : A → Bool → Check A

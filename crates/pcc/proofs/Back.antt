@@ -12,12 +12,12 @@ use Rattle.octets.specs.Bytes.{fronted}
 use Rattle.octets.specs.Words.{lowFirst, wordAt, wordBytes}
 use Rattle.octets.proofs.Choice.{within-bounds}
 use Rattle.octets.proofs.Words.{word-back}
-use Rattle.mctp.specs.Packet.{mostRight, packetSize}
+use Rattle.mctp.specs.Packet.{bodyRight, sizeRight}
 use Rattle.pcc.specs.Region.{signatureOf, flagsOf, lengthOf, command, regionOf, roomFor, regionFor}
 use Rattle.pcc.specs.Reading.{refusalOf, sizeOf, partOf, packetOf, notifyOf, Good}
 use Rattle.pcc.specs.Writing.{writeRefusal, writtenOf, Writable}
-use Rattle.pcc.proofs.Reading.{good-number}
-use Rattle.pcc.proofs.Writing.{writable, written-whole}
+use Rattle.pcc.proofs.Readings.{good-number}
+use Rattle.pcc.proofs.Writings.{writable, written-whole}
 
 flags-below : (b : Bool) → flagsOf b < 2 ^ 32
 flags-below true = lit< tt
@@ -119,8 +119,8 @@ module _ (most : ℕ) (region : List ℕ) (id : ℕ) (notify : Bool) (packet : L
   back-notify = rw whole (front-notify id notify packet rest most room)
 
 -- "Every packet of 5 to 68 bytes has a good arrival on each path", here of the least region that holds it
-module _ (most id : ℕ) (notify : Bool) (packet : List ℕ) (body : mostRight most ≡ true) (subspace : id ≤ 255)
-    (sized : packetSize most (length packet) ≡ true) where
+module _ (most id : ℕ) (notify : Bool) (packet : List ℕ) (body : bodyRight most ≡ true) (subspace : id ≤ 255)
+    (sized : sizeRight most (length packet) ≡ true) where
   zeros : List ℕ
   zeros = replicate (84 - (16 + length packet)) 0
 

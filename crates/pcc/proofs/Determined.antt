@@ -11,12 +11,12 @@ use Rattle.pcc.specs.declared.answer.Written.{Written}
 use Rattle.pcc.specs.declared.answer.Written.the-variants as written
 use Rattle.pcc.specs.Reading.{Read}
 use Rattle.pcc.specs.Answers.{says, numberWritten}
-use Rattle.pcc.proofs.reader.carried.Reads as carrying
-use Rattle.pcc.proofs.reader.packet.Reads as packet
-use Rattle.pcc.proofs.reader.refusal.Reads as refusal
-use Rattle.pcc.proofs.reader.notify.Reads as notify
-use Rattle.pcc.proofs.reader.part.Reads as part
-use Rattle.pcc.proofs.writer.write.Reads as writing
+use Rattle.pcc.proofs.reading.read.Reads as carrying
+use Rattle.pcc.proofs.reading.packet.Reads as packet
+use Rattle.pcc.proofs.reading.refusal.Reads as refusal
+use Rattle.pcc.proofs.reading.notify.Reads as notify
+use Rattle.pcc.proofs.reading.part.Reads as part
+use Rattle.pcc.proofs.writing.write.Reads as writing
 
 -- what an answer says is the whole answer
 says-injective : (c d : Carried) → says c ≡ says d → c ≡ d
@@ -35,8 +35,8 @@ written-injective written.Whole (written.Refused why) e = absurd (omega (arith, 
 written-injective (written.Refused why) written.Whole e = absurd (omega (arith, number-positive why))
 written-injective (written.Refused why) (written.Refused why') e = ap written.Refused (number-injective why why' e)
 
-pub carried-determined : (κs : Lfts 1) (a r q e f : _) → carrying.Post κs a r e → carrying.Post κs a q f → r ≡ q
-carried-determined κs a r q e f p o = says-injective r q (determined p o)
+pub read-determined : (κs : Lfts 1) (a r q e f : _) → carrying.Post κs a r e → carrying.Post κs a q f → r ≡ q
+read-determined κs a r q e f p o = says-injective r q (determined p o)
 
 -- The part holds the same bytes; where it lies is not said.
 pub packet-determined : (κs : Lfts 1) (a r q e f : _) → packet.Post κs a r e → packet.Post κs a q f → r .now ≡ q .now

@@ -16,7 +16,7 @@ use Rattle.pcc.specs.Region.{regionOf}
 use Rattle.pcc.specs.Reading.{refusalOf, sizeOf, partOf, packetOf, notifyOf, readOf}
 use Rattle.pcc.specs.Writing.{writeRefusal, writtenOf, Writable}
 use Rattle.pcc.specs.Alike.{Alike, SameAnswers}
-use Rattle.pcc.proofs.Writing.{writable, written-whole, written-refused}
+use Rattle.pcc.proofs.Writings.{writable, written-whole, written-refused}
 
 -- bit 0 of a word is bit 0 of its lowest byte
 low-bit : (s : List ℕ) → wordAt lowFirst s 4 % 2 ≡ getD s 4 0 % 2

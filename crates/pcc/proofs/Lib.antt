@@ -1,7 +1,7 @@
-pub mod Reading
+pub mod Readings
 pub mod Reasons
 pub mod Answers
-pub mod Writing
+pub mod Writings
 pub mod Back
 pub mod Ignored
 pub mod Determined

@@ -11,7 +11,7 @@ use Rattle.octets.specs.Words.{lowFirst, wordAt, wordBytes}
 use Rattle.octets.proofs.Words.{bytes-back}
 use Rattle.pcc.specs.Region.{signatureOf, lengthOf, command, regionWith}
 use Rattle.pcc.specs.Reading.{refusalOf, sizeOf, packetOf, Good}
-use Rattle.pcc.proofs.Reading.{good}
+use Rattle.pcc.proofs.Readings.{good}
 
 -- four bytes, and then what stands behind them
 four-first : (s : List ℕ) (at n : ℕ) → take (4 + n) (drop at s) ≡ take 4 (drop at s) ++ take n (drop (at + 4) s)

@@ -9,12 +9,12 @@ use native.Mathlib.Decide.{decLt, ℕ-discrete}
 use native.Mathlib.Omega.{arith}
 use lib.ListN.{length}
 use Rattle.octets.specs.Words.{lowFirst, wordAt}
-use Rattle.mctp.specs.Packet.{mostRight}
+use Rattle.mctp.specs.Packet.{bodyRight}
 use Rattle.pcc.specs.Region.{signatureOf, command}
 use Rattle.pcc.specs.Reading.{longest, refusalOf}
 use Rattle.pcc.specs.Reasons.{Reason, other-body, id-over-255, under-84, other-signature, other-command, under-9}
 use Rattle.pcc.specs.Reasons.{over-longest, nothing}
-use Rattle.pcc.proofs.Reading as reading
+use Rattle.pcc.proofs.Readings as reading
 
 module _ (most : ℕ) (region : List ℕ) (id : ℕ) where
   pub number-of-reason : (n : ℕ) → Reason most region id n → refusalOf most region id ≡ n
@@ -27,7 +27,7 @@ module _ (most : ℕ) (region : List ℕ) (id : ℕ) where
   number-of-reason _ (over-longest b i r s c h) = reading.long most region id b i r s c h
   number-of-reason _ (nothing g) = reading.good-number most region id g
 
-  past-header : mostRight most ≡ true → id ≤ 255 → 84 ≤ length region
+  past-header : bodyRight most ≡ true → id ≤ 255 → 84 ≤ length region
       → wordAt lowFirst region 0 ≡ signatureOf id → wordAt lowFirst region 12 ≡ command
       → (n : ℕ) × Reason most region id n
   past-header b i r s c =
@@ -50,7 +50,7 @@ module _ (most : ℕ) (region : List ℕ) (id : ℕ) where
         }),
       )))
 
-  past-room : mostRight most ≡ true → id ≤ 255 → 84 ≤ length region → (n : ℕ) × Reason most region id n
+  past-room : bodyRight most ≡ true → id ≤ 255 → 84 ≤ length region → (n : ℕ) × Reason most region id n
   past-room b i r =
       by-cases (ℕ-discrete (wordAt lowFirst region 0) (signatureOf id))
       (λ (s : wordAt lowFirst region 0 ≡ signatureOf id).
@@ -59,7 +59,7 @@ module _ (most : ℕ) (region : List ℕ) (id : ℕ) where
       (λ (h : wordAt lowFirst region 12 ≡ command → ⊥). (5, other-command b i r s h)))
       (λ (h : wordAt lowFirst region 0 ≡ signatureOf id → ⊥). (9, other-signature b i r h))
 
-  some : (t : Bool) → mostRight most ≡ t → (n : ℕ) × Reason most region id n
+  some : (t : Bool) → bodyRight most ≡ t → (n : ℕ) × Reason most region id n
   some false b = (1, other-body b)
   some true b =
       by-cases (decLt 255 id)
@@ -71,5 +71,5 @@ module _ (most : ℕ) (region : List ℕ) (id : ℕ) where
 
   pub reason : Reason most region id (refusalOf most region id)
   reason =
-      let found = some (mostRight most) refl in
+      let found = some (bodyRight most) refl in
       rw (number-of-reason (found .0) (found .1)) (found .1)

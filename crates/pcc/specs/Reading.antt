@@ -8,7 +8,7 @@ use lib.ListN.{length, take, drop}
 use lib.Dec.{eqb, ltb}
 use Rattle.octets.specs.Choice.{pick, within}
 use Rattle.octets.specs.Words.{lowFirst, wordAt}
-use Rattle.mctp.specs.Packet.{mostRight}
+use Rattle.mctp.specs.Packet.{bodyRight}
 use Rattle.pcc.specs.Region.{signatureOf, command}
 
 -- "length not 9 to 72": 72 is 8 + the largest body; what the region cannot hold after its first 12 bytes is too long as
@@ -19,7 +19,7 @@ longest most room = min (8 + most) (room - 12)
 -- "Reading: 1 (id over 255), 2 (region under 84), 9, 5, 3 (length not 9 to 72)."
 unfoldable pub refusalOf : ℕ → List ℕ → ℕ → ℕ
 refusalOf most region id =
-    pick (not (mostRight most)) 1
+    pick (not (bodyRight most)) 1
     (pick (ltb 255 id) 1
     (pick (ltb (length region) 84) 2
     (pick (not (eqb (wordAt lowFirst region 0) (signatureOf id))) 9
@@ -55,7 +55,7 @@ readOf most region id =
 
 -- what makes a region good
 pub record Good (most : ℕ) (region : List ℕ) (id : ℕ) : Type 0 where
-  pub body : mostRight most ≡ true
+  pub body : bodyRight most ≡ true
   pub subspace : id ≤ 255
   pub room : 84 ≤ length region
   pub signed : wordAt lowFirst region 0 ≡ signatureOf id

@@ -6,23 +6,23 @@ use mathlib.Core.Bool.{true, false}
 use mathlib.Core.List.{List}
 use lib.ListN.{length}
 use Rattle.octets.specs.Words.{lowFirst, wordAt}
-use Rattle.mctp.specs.Packet.{mostRight}
+use Rattle.mctp.specs.Packet.{bodyRight}
 use Rattle.pcc.specs.Region.{signatureOf, command}
 use Rattle.pcc.specs.Reading.{longest, Good}
 
 pub data Reason (most : ℕ) (region : List ℕ) (id : ℕ) : ℕ → Type 0 where
-  other-body : mostRight most ≡ false → Reason most region id 1
-  id-over-255 : mostRight most ≡ true → 255 < id → Reason most region id 1
-  under-84 : mostRight most ≡ true → id ≤ 255 → length region < 84 → Reason most region id 2
-  other-signature : mostRight most ≡ true → id ≤ 255 → 84 ≤ length region
+  other-body : bodyRight most ≡ false → Reason most region id 1
+  id-over-255 : bodyRight most ≡ true → 255 < id → Reason most region id 1
+  under-84 : bodyRight most ≡ true → id ≤ 255 → length region < 84 → Reason most region id 2
+  other-signature : bodyRight most ≡ true → id ≤ 255 → 84 ≤ length region
       → (wordAt lowFirst region 0 ≡ signatureOf id → ⊥) → Reason most region id 9
-  other-command : mostRight most ≡ true → id ≤ 255 → 84 ≤ length region
+  other-command : bodyRight most ≡ true → id ≤ 255 → 84 ≤ length region
       → wordAt lowFirst region 0 ≡ signatureOf id
       → (wordAt lowFirst region 12 ≡ command → ⊥) → Reason most region id 5
-  under-9 : mostRight most ≡ true → id ≤ 255 → 84 ≤ length region
+  under-9 : bodyRight most ≡ true → id ≤ 255 → 84 ≤ length region
       → wordAt lowFirst region 0 ≡ signatureOf id → wordAt lowFirst region 12 ≡ command
       → wordAt lowFirst region 8 < 9 → Reason most region id 3
-  over-longest : mostRight most ≡ true → id ≤ 255 → 84 ≤ length region
+  over-longest : bodyRight most ≡ true → id ≤ 255 → 84 ≤ length region
       → wordAt lowFirst region 0 ≡ signatureOf id → wordAt lowFirst region 12 ≡ command
       → longest most (length region) < wordAt lowFirst region 8 → Reason most region id 3
   nothing : Good most region id → Reason most region id 0

@@ -8,16 +8,16 @@ use lib.ListN.{length}
 use lib.Dec.{eqb, ltb}
 use Rattle.octets.specs.Choice.{pick}
 use Rattle.octets.specs.Bytes.{fronted}
-use Rattle.mctp.specs.Packet.{mostRight, packetSize}
+use Rattle.mctp.specs.Packet.{bodyRight, sizeRight}
 use Rattle.pcc.specs.Region.{regionOf, roomFor}
 
 -- "Writing: 1, 3, 2 (region under 84).", of a region of `room` bytes and a packet of `size`: "All three writers look at
 -- a packet's size only"
 unfoldable pub writeRefusal : ℕ → ℕ → ℕ → ℕ → ℕ
 writeRefusal most room id size =
-    pick (not (mostRight most)) 1
+    pick (not (bodyRight most)) 1
     (pick (ltb 255 id) 1
-    (pick (not (packetSize most size)) 3
+    (pick (not (sizeRight most size)) 3
     (pick (ltb room (roomFor size)) 2
     0)))
 
@@ -29,7 +29,7 @@ writtenOf most region id notify packet =
 
 -- what may be written
 pub record Writable (most room id size : ℕ) : Type 0 where
-  pub body : mostRight most ≡ true
+  pub body : bodyRight most ≡ true
   pub subspace : id ≤ 255
   pub least : 5 ≤ size
   pub greatest : size ≤ 4 + most

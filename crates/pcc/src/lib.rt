@@ -1,14 +1,14 @@
 // The PCC carrier: a packet read as a part of a lent region, and written to a region's front.
 mod answer;
-mod reader;
+mod reading;
 mod region;
-mod writer;
+mod writing;
 
 pub use answer::Carried;
 pub use answer::Written;
-pub use reader::carried;
-pub use reader::notify;
-pub use reader::packet;
-pub use reader::part;
-pub use reader::refusal;
-pub use writer::write;
+pub use reading::notify;
+pub use reading::packet;
+pub use reading::part;
+pub use reading::read;
+pub use reading::refusal;
+pub use writing::write;

@@ -1,4 +1,4 @@
--- From each carrier's own answer to what the arrival carries: what the calls of the three paths cite.
+-- From each carrier's own answer to what the arrival brings: what the calls of the three paths cite.
 -- Assumes nothing.
 use mathlib.Core.Path.{_≡_, refl, ap, sym, _∙_}
 use mathlib.Core.Bool.{Bool}
@@ -27,31 +27,31 @@ use Rattle.pcc.specs.Answers as pcc-says
 use Rattle.pcc.proofs.Answers.{number-said, notify-said, packet-said}
 use Rattle.mmbi.specs.declared.interface.Flags.{Flags}
 use Rattle.mmbi.specs.Interface.{stateOf, mayRead}
-use Rattle.ring.specs.declared.reading.Taken as ring
-use Rattle.ring.specs.declared.reading.Taken.the-variants as ring-case
-use Rattle.ring.proofs.reading.Taken.{the-type}
-use Rattle.ring.specs.Turn.{turn}
+use Rattle.ring.specs.declared.answer.Carried as ring
+use Rattle.ring.specs.declared.answer.Carried.the-variants as ring-case
+use Rattle.ring.proofs.answer.Carried.{the-type}
+use Rattle.ring.specs.Round.{roundFrom}
 use Rattle.ring.specs.Packet as ring-packet
 use Rattle.ring.specs.Reading as ring-says
-use Rattle.ring.proofs.Turns.{turn-length}
+use Rattle.ring.proofs.Rounds.{round-length}
 use Rattle.ring.proofs.Readings.{Good, good, good-short}
-use Rattle.rack.specs.declared.answer.Known.the-variants.{Source, Notify}
+use Rattle.rack.specs.declared.answer.Beside.the-variants.{Source, Notify}
 use Rattle.rack.specs.Why.{whySmbus, whyPcc, whyRing}
-use Rattle.rack.specs.Arrivals.{Carried, packet, none, without, smbusCarries, pccCarries, ringSays, ringCarries}
+use Rattle.rack.specs.Arrivals.{Brought, packet, none, without, smbusBrings, pccBrings, ringSays, ringBrings}
 
 not-zero : (why : Refusal) {n : ℕ} → n ≡ numberOf why → n ≡ 0 → ⊥
 not-zero why e z = omega (arith, number-positive why)
 
 module _ (most : ℕ) (f : List ℕ) (own : ℕ) (c : smbus.Carried)
     (says : smbus-says.saysCarried c ≡ smbus-says.carriedOf most f own) where
-  pub smbus-none : (why : Refusal) → c ≡ smbus-case.Refused why → smbusCarries most f own ≡ none (without (whySmbus c))
-  unfolding smbusCarries
+  pub smbus-none : (why : Refusal) → c ≡ smbus-case.Refused why → smbusBrings most f own ≡ none (without (whySmbus c))
+  unfolding smbusBrings
   smbus-none why is =
       let n : frame.refusalOf most f own ≡ numberOf why = told-number most f own c says why is in
       rw (ne-eqb (frame.refusalOf most f own) 0 (not-zero why n), n, is)
 
-  pub smbus-packet : (a : ℕ) → c ≡ smbus-case.Packet a → smbusCarries most f own ≡ packet (frame.partOf f) (Source a)
-  unfolding smbusCarries
+  pub smbus-packet : (a : ℕ) → c ≡ smbus-case.Packet a → smbusBrings most f own ≡ packet (frame.partOf f) (Source a)
+  unfolding smbusBrings
   smbus-packet a is =
       rw (
         eq-eqb (frame.refusalOf most f own) 0 (told-good most f own c says a is),
@@ -60,15 +60,15 @@ module _ (most : ℕ) (f : List ℕ) (own : ℕ) (c : smbus.Carried)
       )
 
 module _ (most : ℕ) (r : List ℕ) (id : ℕ) (c : pcc.Carried) (says : pcc-says.says c ≡ region.readOf most r id) where
-  pub pcc-none : (why : Refusal) → c ≡ pcc-case.Refused why → pccCarries most r id ≡ none (without (whyPcc c))
-  unfolding pccCarries
+  pub pcc-none : (why : Refusal) → c ≡ pcc-case.Refused why → pccBrings most r id ≡ none (without (whyPcc c))
+  unfolding pccBrings
   pcc-none why is =
       let n : region.refusalOf most r id ≡ numberOf why = sym (number-said most r id says is) in
       rw (ne-eqb (region.refusalOf most r id) 0 (not-zero why n), n, is)
 
   pub pcc-packet : (size : ℕ) (notify : Bool) → c ≡ pcc-case.Packet size notify
-      → pccCarries most r id ≡ packet (region.partOf r size) (Notify notify)
-  unfolding pccCarries
+      → pccBrings most r id ≡ packet (region.partOf r size) (Notify notify)
+  unfolding pccBrings
   pcc-packet size notify is =
       let z : region.refusalOf most r id ≡ 0 = sym (number-said most r id says is) in
       let p : region.packetOf most r id ≡ region.partOf r size = sym (packet-said most r id says is) in
@@ -76,7 +76,7 @@ module _ (most : ℕ) (r : List ℕ) (id : ℕ) (c : pcc.Carried) (says : pcc-sa
       rw (eq-eqb (region.refusalOf most r id) 0 z, p, f)
 
 -- the second, third and fourth kind of a ring's answer
-says-none : (s : List ℕ) (t : ring.Taken) → OneOf (1 ∷ 2 ∷ 3 ∷ []) (tagOf the-type t)
+says-none : (s : List ℕ) (t : ring.Carried) → OneOf (1 ∷ 2 ∷ 3 ∷ []) (tagOf the-type t)
     → ringSays s (ring-says.saidOf t) ≡ none (without (whyRing t))
 says-none s (ring-case.Packet size next) tag =
     ⊎-elim (λ h. absurd (omega arith)) (⊎-elim (λ h. absurd (omega arith)) (λ h. absurd (omega arith))) tag
@@ -91,7 +91,7 @@ module _
     (flags : Flags)
     (read write : ℕ)
     (out after : List ℕ)
-    (t : ring.Taken)
+    (t : ring.Carried)
     (told : ring-says.left (ring-says.saidOf t) after
     ≡ ring-says.readOf most bytes configured (mayRead (stateOf flags)) read write out)
   where
@@ -99,20 +99,20 @@ module _
     pub ring-output : after ≡ ring-says.readOf most bytes configured (mayRead (stateOf flags)) read write out .output
     ring-output = ap (λ (l : ring-says.Left). l .output) told
 
-    module _ (u : ring.Taken) (is : t ≡ u) where
+    module _ (u : ring.Carried) (is : t ≡ u) where
       said : ring-says.takenOf most bytes configured (mayRead (stateOf flags)) read write (length out)
           ≡ ring-says.saidOf u
       said = sym (ap (λ (l : ring-says.Left). l .says) told) ∙ ap ring-says.saidOf is
 
-      -- what the ring carries is what its answer says
-      pub ring-carries : ringCarries most bytes configured flags read write out
-          ≡ ringSays (turn read bytes) (ring-says.saidOf u)
-      unfolding ringCarries
-      ring-carries = ap (ringSays (turn read bytes)) said
+      -- what the ring brings is what its answer says
+      pub ring-brings : ringBrings most bytes configured flags read write out
+          ≡ ringSays (roundFrom read bytes) (ring-says.saidOf u)
+      unfolding ringBrings
+      ring-brings = ap (ringSays (roundFrom read bytes)) said
 
     pub ring-none : OneOf (1 ∷ 2 ∷ 3 ∷ []) (tagOf the-type t)
-        → ringCarries most bytes configured flags read write out ≡ none (without (whyRing t))
-    ring-none tag = ring-carries t refl ∙ says-none (turn read bytes) t tag
+        → ringBrings most bytes configured flags read write out ≡ none (without (whyRing t))
+    ring-none tag = ring-brings t refl ∙ says-none (roundFrom read bytes) t tag
 
     module _ (size next : ℕ) (is : t ≡ ring-case.Packet size next) where
       found : Good most bytes configured (mayRead (stateOf flags)) read write (length out) size next
@@ -123,18 +123,18 @@ module _
       pub ring-fits : size ≤ length out
       ring-fits = omega (arith, found .room, found .header .largest)
 
-      sized : length (ring-packet.packetOf (turn read bytes)) ≡ size
+      sized : length (ring-packet.packetOf (roundFrom read bytes)) ≡ size
       unfolding ring-packet.packetOf
       sized =
           let short : 4 + size < length bytes =
           good-short most bytes configured (mayRead (stateOf flags)) read write (length out) size next found in
-          simp (length-take, length-drop, turn-length) (omega (arith, found .header .sized))
+          simp (length-take, length-drop, round-length) (omega (arith, found .header .sized))
 
       -- the packet stands at the output's front
-      pub ring-front : take size after ≡ ring-packet.packetOf (turn read bytes)
+      pub ring-front : take size after ≡ ring-packet.packetOf (roundFrom read bytes)
       unfolding fronted
       ring-front =
-          ap (take size) (ring-output ∙ ap (λ (w : ring-says.Said). ring-says.outputOf w (turn read bytes) out)
+          ap (take size) (ring-output ∙ ap (λ (w : ring-says.Said). ring-says.outputOf w (roundFrom read bytes) out)
           (said (ring-case.Packet size next) is))
-          ∙ take-at (ring-packet.packetOf (turn read bytes))
-          (drop (length (ring-packet.packetOf (turn read bytes))) out) size sized
+          ∙ take-at (ring-packet.packetOf (roundFrom read bytes))
+          (drop (length (ring-packet.packetOf (roundFrom read bytes))) out) size sized

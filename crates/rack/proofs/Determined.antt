@@ -13,8 +13,8 @@ use Rattle.rack.specs.declared.answer.NoPacket.{NoPacket}
 use Rattle.rack.specs.declared.answer.NoPacket.the-variants.{Empty, Skipped, Refused}
 use Rattle.rack.specs.declared.answer.Arrived.{Arrived}
 use Rattle.rack.specs.declared.answer.Arrived.the-variants.{Given, Nothing}
-use Rattle.rack.specs.declared.answer.Outcome.{Outcome}
-use Rattle.rack.specs.Arrivals.{bySmbus, byPcc, byRing, without, carries}
+use Rattle.rack.specs.declared.answer.Received.{Received}
+use Rattle.rack.specs.Arrivals.{bySmbus, byPcc, byRing, without, brings}
 use Rattle.rack.specs.Answers.{tells, Left, left, arrivedOf}
 use Rattle.rack.proofs.path.from_smbus.Reads as smbus
 use Rattle.rack.proofs.path.from_pcc.Reads as pcc
@@ -39,7 +39,7 @@ tells-injective (Nothing v) (Given j y) e = cc
 tells-injective (Nothing v) (Nothing w) e = ap Nothing (without-injective v w (cc))
 
 -- the answer, the receiver and every byte of the memory
-left-injective : (o q : Outcome) (m n : List ℕ) → left o m ≡ left q n → (o ≡ q) × (m ≡ n)
+left-injective : (o q : Received) (m n : List ℕ) → left o m ≡ left q n → (o ≡ q) × (m ≡ n)
 left-injective o q m n e =
     let told = tells-injective (o .arrived) (q .arrived) (ap (λ (l : Left). l .told) e) in
     ((λ i. record { arrived = told i; receiver = e i .receiver }), ap (λ (l : Left). l .memory) e)
@@ -47,22 +47,22 @@ left-injective o q m n e =
 -- Each contract says what the demands say of an arrival on its path ..
 pub from-smbus-arrives : (κs : Lfts 2) (a r e : _) → smbus.Post κs a r e
     → left r (e .1 .1 .1 .0 .now)
-    ≡ arrivedOf 64 (a .1 .1 .0) (a .1 .1 .1 .0 .now) (carries 64 (bySmbus (a .0 .now) (a .1 .0)))
+    ≡ arrivedOf 64 (a .1 .1 .0) (a .1 .1 .1 .0 .now) (brings 64 (bySmbus (a .0 .now) (a .1 .0)))
 from-smbus-arrives κs a r e p = p
 
 pub from-pcc-arrives : (κs : Lfts 2) (a r e : _) → pcc.Post κs a r e
     → left r (e .1 .1 .1 .0 .now)
-    ≡ arrivedOf 64 (a .1 .1 .0) (a .1 .1 .1 .0 .now) (carries 64 (byPcc (a .0 .now) (a .1 .0)))
+    ≡ arrivedOf 64 (a .1 .1 .0) (a .1 .1 .1 .0 .now) (brings 64 (byPcc (a .0 .now) (a .1 .0)))
 from-pcc-arrives κs a r e p = p
 
 pub from-ring-arrives : (κs : Lfts 3) (a r e : _) → ring.Post κs a r e
-    → (left r (e .1 .1 .1 .1 .1 .1 .1 .0 .now)
-    ≡ arrivedOf 64 (a .1 .1 .1 .1 .1 .1 .0) (a .1 .1 .1 .1 .1 .1 .1 .0 .now)
-    (carries 64
-    (byRing (a .0 .now) (a .1 .0) (a .1 .1 .0) (a .1 .1 .1 .0) (a .1 .1 .1 .1 .0) (a .1 .1 .1 .1 .1 .0 .now))))
-    × (e .1 .1 .1 .1 .1 .0 .now
-    ≡ readOf 64 (a .0 .now) (a .1 .0) (mayRead (stateOf (a .1 .1 .0))) (a .1 .1 .1 .0) (a .1 .1 .1 .1 .0)
-    (a .1 .1 .1 .1 .1 .0 .now) .output)
+    → (left r (e .1 .1 .1 .1 .1 .1 .0 .now)
+    ≡ arrivedOf 64 (a .1 .1 .1 .1 .1 .0) (a .1 .1 .1 .1 .1 .1 .0 .now)
+    (brings 64
+    (byRing (a .0 .now) (a .1 .0) (a .1 .1 .0) (a .1 .1 .1 .0 .read) (a .1 .1 .1 .0 .write) (a .1 .1 .1 .1 .0 .now))))
+    × (e .1 .1 .1 .1 .0 .now
+    ≡ readOf 64 (a .0 .now) (a .1 .0) (mayRead (stateOf (a .1 .1 .0))) (a .1 .1 .1 .0 .read) (a .1 .1 .1 .0 .write)
+    (a .1 .1 .1 .1 .0 .now) .output)
 from-ring-arrives κs a r e p = p
 
 -- .. and leaves no choice.
@@ -76,8 +76,8 @@ from-pcc-determined κs a r q e f p o = left-injective r q _ _ (determined p o)
 
 -- from a ring, of the output too
 pub from-ring-determined : (κs : Lfts 3) (a r q e f : _) → ring.Post κs a r e → ring.Post κs a q f
-    → ((r ≡ q) × (e .1 .1 .1 .1 .1 .1 .1 .0 .now ≡ f .1 .1 .1 .1 .1 .1 .1 .0 .now))
-    × (e .1 .1 .1 .1 .1 .0 .now ≡ f .1 .1 .1 .1 .1 .0 .now)
+    → ((r ≡ q) × (e .1 .1 .1 .1 .1 .1 .0 .now ≡ f .1 .1 .1 .1 .1 .1 .0 .now))
+    × (e .1 .1 .1 .1 .0 .now ≡ f .1 .1 .1 .1 .0 .now)
 from-ring-determined κs a r q e f p o = (left-injective r q _ _ (determined (p .0) (o .0)), determined (p .1) (o .1))
 
 -- No call asks anything of its arguments first.

@@ -4,20 +4,20 @@ use Prim.Native.Nat.{ℕ}
 use mathlib.Core.List.{List, []}
 use Rattle.slots.specs.declared.state.Receiver.{Receiver}
 use Rattle.receiver.specs.Step as rules
-use Rattle.rack.specs.declared.answer.Known.{Known}
+use Rattle.rack.specs.declared.answer.Beside.{Beside}
 use Rattle.rack.specs.declared.answer.Arrived.{Arrived}
 use Rattle.rack.specs.declared.answer.Arrived.the-variants.{Given, Nothing}
-use Rattle.rack.specs.declared.answer.Outcome.{Outcome}
-use Rattle.rack.specs.Arrivals.{Without, without, Carried, packet, none}
+use Rattle.rack.specs.declared.answer.Received.{Received}
+use Rattle.rack.specs.Arrivals.{Without, without, Brought, packet, none}
 
 -- what is told of an arrival: a carrier's refusal is not a message rule's, and EMPTY is neither
 pub data Told : Type 0 where
   -- a packet was found: what the carrier also knows, and what the message rules say to the packet
-  given : Known → rules.Said → Told
+  given : Beside → rules.Said → Told
   nothing : Without → Told
 
 abbrev pub tells : Arrived → Told
-tells (Given known answer) = given known (rules.says answer)
+tells (Given beside answer) = given beside (rules.says answer)
 tells (Nothing why) = nothing (without why)
 
 -- all that a call leaves
@@ -26,14 +26,14 @@ pub record Left : Type 0 where
   pub receiver : Receiver
   pub memory : List ℕ
 
-abbrev pub left : Outcome → List ℕ → Left
+abbrev pub left : Received → List ℕ → Left
 left o m = record { told = tells (o .arrived); receiver = o .receiver; memory = m }
 
 -- what the message rules leave of a packet, with what the carrier also knows
-abbrev pub ruled : Known → rules.Left → Left
+abbrev pub ruled : Beside → rules.Left → Left
 ruled k l = record { told = given k (l .said); receiver = l .receiver; memory = l .memory }
 
 -- "a good arrival's packet goes to the message rules"; "A carrier's refusal never reaches the slots."
-abbrev pub arrivedOf : ℕ → Receiver → List ℕ → Carried → Left
-arrivedOf most r m (packet p known) = ruled known (rules.stepOf most r m p)
+abbrev pub arrivedOf : ℕ → Receiver → List ℕ → Brought → Left
+arrivedOf most r m (packet p beside) = ruled beside (rules.stepOf most r m p)
 arrivedOf most r m (none why) = record { told = nothing why; receiver = r; memory = m }

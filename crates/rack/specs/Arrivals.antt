@@ -10,11 +10,11 @@ use Rattle.mmbi.specs.declared.interface.Flags.{Flags}
 use Rattle.mmbi.specs.Interface.{stateOf, mayRead}
 use Rattle.smbus.specs.Reading as smbus
 use Rattle.pcc.specs.Reading as pcc
-use Rattle.ring.specs.Turn.{turn}
+use Rattle.ring.specs.Round.{roundFrom}
 use Rattle.ring.specs.Packet as ringPacket
 use Rattle.ring.specs.Reading as ring
-use Rattle.rack.specs.declared.answer.Known.{Known}
-use Rattle.rack.specs.declared.answer.Known.the-variants.{Source, Notify, Next}
+use Rattle.rack.specs.declared.answer.Beside.{Beside}
+use Rattle.rack.specs.declared.answer.Beside.the-variants.{Source, Notify, Next}
 use Rattle.rack.specs.declared.answer.NoPacket.{NoPacket}
 use Rattle.rack.specs.declared.answer.NoPacket.the-variants as code
 
@@ -43,37 +43,37 @@ without (code.Refused refusal) = refused (numberOf refusal)
 
 -- what the carrier makes of an arrival. "It is good exactly if the reader gives a packet": here with what the carrier
 -- also knows
-pub data Carried : Type 0 where
-  packet : List ℕ → Known → Carried
-  none : Without → Carried
+pub data Brought : Type 0 where
+  packet : List ℕ → Beside → Brought
+  none : Without → Brought
 
 -- a frame: the packet with its source address, or the refusal's number
-unfoldable pub smbusCarries : ℕ → List ℕ → ℕ → Carried
-smbusCarries most frame own =
+unfoldable pub smbusBrings : ℕ → List ℕ → ℕ → Brought
+smbusBrings most frame own =
     pick (eqb (smbus.refusalOf most frame own) 0)
     (packet (smbus.packetOf most frame own) (Source (smbus.sourceAddressOf most frame own)))
     (none (refused (smbus.refusalOf most frame own)))
 
 -- a region: the packet with its notify flag, or the refusal's number
-unfoldable pub pccCarries : ℕ → List ℕ → ℕ → Carried
-pccCarries most region id =
+unfoldable pub pccBrings : ℕ → List ℕ → ℕ → Brought
+pccBrings most region id =
     pick (eqb (pcc.refusalOf most region id) 0)
     (packet (pcc.packetOf most region id) (Notify (pcc.notifyOf most region id)))
     (none (refused (pcc.refusalOf most region id)))
 
 -- a ring that starts at the read pointer: "A good ring arrival gives the new read pointer"
-abbrev pub ringSays : List ℕ → ring.Said → Carried
+abbrev pub ringSays : List ℕ → ring.Said → Brought
 ringSays s (ring.packet size next) = packet (ringPacket.packetOf s) (Next next)
 ringSays s ring.empty = none empty
 ringSays s (ring.skipped number next) = none (skipped number next)
 ringSays s (ring.refused number) = none (refused number)
 
-unfoldable pub ringCarries : ℕ → List ℕ → ℕ → Flags → ℕ → ℕ → List ℕ → Carried
-ringCarries most bytes configured flags read write out =
-    ringSays (turn read bytes) (ring.takenOf most bytes configured (mayRead (stateOf flags)) read write (length out))
+unfoldable pub ringBrings : ℕ → List ℕ → ℕ → Flags → ℕ → ℕ → List ℕ → Brought
+ringBrings most bytes configured flags read write out =
+    ringSays (roundFrom read bytes) (ring.takenOf most bytes configured (mayRead (stateOf flags)) read write (length out))
 
 -- "The carrier's checks come first, all of them": what the carrier of an arrival makes of it
-abbrev pub carries : ℕ → Arrival → Carried
-carries most (bySmbus frame own) = smbusCarries most frame own
-carries most (byPcc region id) = pccCarries most region id
-carries most (byRing bytes configured flags read write out) = ringCarries most bytes configured flags read write out
+abbrev pub brings : ℕ → Arrival → Brought
+brings most (bySmbus frame own) = smbusBrings most frame own
+brings most (byPcc region id) = pccBrings most region id
+brings most (byRing bytes configured flags read write out) = ringBrings most bytes configured flags read write out

@@ -4,8 +4,8 @@ use Rattle.smbus.specs.declared.answer.Carried as smbus
 use Rattle.smbus.specs.declared.answer.Carried.the-variants as smbus-case
 use Rattle.pcc.specs.declared.answer.Carried as pcc
 use Rattle.pcc.specs.declared.answer.Carried.the-variants as pcc-case
-use Rattle.ring.specs.declared.reading.Taken as ring
-use Rattle.ring.specs.declared.reading.Taken.the-variants as ring-case
+use Rattle.ring.specs.declared.answer.Carried as ring
+use Rattle.ring.specs.declared.answer.Carried.the-variants as ring-case
 use Rattle.rack.specs.declared.answer.NoPacket.{NoPacket}
 use Rattle.rack.specs.declared.answer.NoPacket.the-variants.{Empty, Skipped, Refused}
 
@@ -17,7 +17,7 @@ abbrev pub whyPcc : pcc.Carried → NoPacket
 whyPcc (pcc-case.Packet size notify) = Empty
 whyPcc (pcc-case.Refused refusal) = Refused refusal
 
-abbrev pub whyRing : ring.Taken → NoPacket
+abbrev pub whyRing : ring.Carried → NoPacket
 whyRing (ring-case.Packet size next) = Empty
 whyRing ring-case.Empty = Empty
 whyRing (ring-case.Skipped refusal next) = Skipped refusal next

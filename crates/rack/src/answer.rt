@@ -5,7 +5,7 @@ use slots::Receiver;
 
 // What the carrier knows beside the packet: the SMBus source address, the PCC notify flag, or the ring's new read
 // pointer.
-pub enum Known {
+pub enum Beside {
     Source(u8),
     Notify(bool),
     Next(usize),
@@ -23,12 +23,12 @@ pub enum NoPacket {
 
 pub enum Arrived {
     // A packet was found, and this is what the message rules answer.
-    Given { known: Known, answer: Answer },
+    Given { beside: Beside, answer: Answer },
     Nothing { why: NoPacket },
 }
 
 // The answer, and the receiver as the call leaves it.
-pub struct Outcome {
+pub struct Received {
     pub arrived: Arrived,
     pub receiver: Receiver,
 }

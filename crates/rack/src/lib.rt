@@ -4,9 +4,9 @@ mod path;
 mod why;
 
 pub use answer::Arrived;
-pub use answer::Known;
+pub use answer::Beside;
 pub use answer::NoPacket;
-pub use answer::Outcome;
+pub use answer::Received;
 pub use path::from_pcc;
 pub use path::from_ring;
 pub use path::from_smbus;

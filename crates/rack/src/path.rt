@@ -1,36 +1,37 @@
 // One call for each path: it takes the carrier's answer apart and leaves at once unless it is a packet. "A carrier's
 // refusal never reaches the slots."
 use crate::answer::Arrived;
-use crate::answer::Known;
+use crate::answer::Beside;
 use crate::answer::NoPacket;
-use crate::answer::Outcome;
+use crate::answer::Received;
 use crate::why;
 use mmbi::Flags;
+use mmbi::Pointers;
 use slots::Receiver;
 ghost use mathlib.Core.Path.{_≡_};
 ghost use Rattle.mmbi.specs.Interface.{stateOf, mayRead};
 ghost use Rattle.ring.specs.Reading.{readOf};
-ghost use Rattle.rack.specs.Arrivals.{packet as carried, smbusCarries, pccCarries, ringCarries};
+ghost use Rattle.rack.specs.Arrivals.{packet as carried, smbusBrings, pccBrings, ringBrings};
 ghost use Rattle.rack.specs.Answers.{left, arrivedOf};
 
 // A frame at our own address.
-pub fn from_smbus(frame: &[u8], own: u8, receiver: Receiver, memory: &mut [u8]) -> Outcome
+pub fn from_smbus(frame: &[u8], own: u8, receiver: Receiver, memory: &mut [u8]) -> Received
     ensures { λ r. ⌜ left r (now (memory .exit)) ≡ arrivedOf 64 receiver (now (memory .entry))
-        (smbusCarries 64 (now (frame .entry)) own) ⌝ }
+        (smbusBrings 64 (now (frame .entry)) own) ⌝ }
 {
-    let carried = smbus::carried(frame, own);
+    let carried = smbus::read(frame, own);
     let smbus::Carried::Packet { source } = carried else {
         return no_packet(receiver, why::smbus(carried));
     };
-    give(receiver, memory, smbus::part(frame), Known::Source(source))
+    give(receiver, memory, smbus::part(frame), Beside::Source(source))
 }
 
 // A region under its subspace id.
-pub fn from_pcc(region: &[u8], id: u32, receiver: Receiver, memory: &mut [u8]) -> Outcome
+pub fn from_pcc(region: &[u8], id: u32, receiver: Receiver, memory: &mut [u8]) -> Received
     ensures { λ r. ⌜ left r (now (memory .exit)) ≡ arrivedOf 64 receiver (now (memory .entry))
-        (pccCarries 64 (now (region .entry)) id) ⌝ }
+        (pccBrings 64 (now (region .entry)) id) ⌝ }
 {
-    let carried = pcc::carried(region, id);
+    let carried = pcc::read(region, id);
     let pcc::Carried::Packet { size, notify } = carried else {
         return no_packet(receiver, why::pcc(carried));
     };
@@ -38,7 +39,7 @@ pub fn from_pcc(region: &[u8], id: u32, receiver: Receiver, memory: &mut [u8]) -
         receiver,
         memory,
         pcc::part(region, size),
-        Known::Notify(notify),
+        Beside::Notify(notify),
     )
 }
 
@@ -48,44 +49,44 @@ pub fn from_ring(
     bytes: &[u8],
     configured: usize,
     flags: Flags,
-    read: usize,
-    write: usize,
+    pointers: Pointers,
     out: &mut [u8],
     receiver: Receiver,
     memory: &mut [u8],
-) -> Outcome
+) -> Received
     ensures { λ r. ⌜ left r (now (memory .exit)) ≡ arrivedOf 64 receiver (now (memory .entry))
-        (ringCarries 64 (now (bytes .entry)) configured flags read write (now (out .entry))) ⌝ }
-    ensures { λ _. ⌜ now (out .exit) ≡ readOf 64 (now (bytes .entry)) configured (mayRead (stateOf flags)) read write
+        (ringBrings 64 (now (bytes .entry)) configured flags (pointers .read) (pointers .write) (now (out .entry))) ⌝ }
+    ensures { λ _. ⌜ now (out .exit) ≡ readOf 64 (now (bytes .entry)) configured (mayRead (stateOf flags))
+        (pointers .read) (pointers .write)
         (now (out .entry)) .output ⌝ }
 {
-    let taken = ring::read(bytes, configured, flags, read, write, out);
-    let ring::Taken::Packet(size, next) = taken else {
+    let taken = ring::read(bytes, configured, flags, pointers, out);
+    let ring::Carried::Packet(size, next) = taken else {
         return no_packet(receiver, why::ring(taken));
     };
-    give(receiver, memory, &out[0..size], Known::Next(next))
+    give(receiver, memory, &out[0..size], Beside::Next(next))
 }
 
-fn no_packet(receiver: Receiver, why: NoPacket) -> Outcome
+fn no_packet(receiver: Receiver, why: NoPacket) -> Received
     ensures { λ r. ⌜ r ≡ record { arrived = Arrived.Nothing why; receiver = receiver } ⌝ }
 {
-    Outcome {
+    Received {
         arrived: Arrived::Nothing { why: why },
         receiver: receiver,
     }
 }
 
 // The packet given to the message rules.
-fn give(receiver: Receiver, memory: &mut [u8], packet: &[u8], known: Known) -> Outcome
+fn give(receiver: Receiver, memory: &mut [u8], packet: &[u8], beside: Beside) -> Received
     ensures { λ r. ⌜ left r (now (memory .exit)) ≡ arrivedOf 64 receiver (now (memory .entry))
-        (carried (now (packet .entry)) known) ⌝ }
+        (carried (now (packet .entry)) beside) ⌝ }
 {
     let given = receiver::give(receiver, memory, packet);
     let answer = given.answer;
     let after = given.receiver;
-    Outcome {
+    Received {
         arrived: Arrived::Given {
-            known: known,
+            beside: beside,
             answer: answer,
         },
         receiver: after,

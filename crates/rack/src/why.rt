@@ -21,16 +21,16 @@ pub fn pcc(carried: pcc::Carried) -> NoPacket
     }
 }
 
-pub fn ring(taken: ring::Taken) -> NoPacket
+pub fn ring(taken: ring::Carried) -> NoPacket
     ensures { λ r. ⌜ r ≡ whyRing taken ⌝ }
 {
     match taken {
-        ring::Taken::Packet(_, _) => NoPacket::Empty,
-        ring::Taken::Empty => NoPacket::Empty,
-        ring::Taken::Skipped(refusal, next) => NoPacket::Skipped {
+        ring::Carried::Packet(_, _) => NoPacket::Empty,
+        ring::Carried::Empty => NoPacket::Empty,
+        ring::Carried::Skipped(refusal, next) => NoPacket::Skipped {
             refusal: refusal,
             next: next,
         },
-        ring::Taken::Refused(refusal) => NoPacket::Refused { refusal: refusal },
+        ring::Carried::Refused(refusal) => NoPacket::Refused { refusal: refusal },
     }
 }

@@ -23,28 +23,28 @@ use Rattle.decision.specs.Decision.{decided}
 use Rattle.decision.proofs.Decided.{every-decision}
 use Rattle.decision.proofs.decide.Reads as decide
 use Rattle.receiver.specs.Effects.{Unchanged, SlotFreed, OneSlot}
-use Rattle.receiver.specs.Step.{refused, answerOf, carried, stepOf}
+use Rattle.receiver.specs.Step.{refused, answerOf, carriedOut, stepOf}
 use Rattle.receiver.proofs.Laid.{laid-before, laid-behind}
 
 -- giving a packet is the decision carried out
 pub step-is-decision : (most : ℕ) (r : Receiver) (m p : List ℕ)
-    → stepOf most r m p ≡ carried r m p (decided most r (length m) p)
+    → stepOf most r m p ≡ carriedOut r m p (decided most r (length m) p)
 unfolding stepOf
 step-is-decision most r m p = refl
 
 -- and so it is with any plan that the contract of `decide` allows
 pub step-is-plan : (κs : Lfts 1) (a plan e : _) → decide.Post κs a plan e → (m : List ℕ) → length m ≡ a .1 .0
-    → stepOf 64 (a .0) m (a .1 .1 .0 .now) ≡ carried (a .0) m (a .1 .1 .0 .now) (planned plan)
+    → stepOf 64 (a .0) m (a .1 .1 .0 .now) ≡ carriedOut (a .0) m (a .1 .1 .0 .now) (planned plan)
 step-is-plan κs a plan e p m n =
     step-is-decision 64 (a .0) m (a .1 .1 .0 .now)
-    ∙ ap (carried (a .0) m (a .1 .1 .0 .now)) (ap (λ (k : ℕ). decided 64 (a .0) k (a .1 .1 .0 .now)) n ∙ sym p)
+    ∙ ap (carriedOut (a .0) m (a .1 .1 .0 .now)) (ap (λ (k : ℕ). decided 64 (a .0) k (a .1 .1 .0 .now)) n ∙ sym p)
 
 -- a right state stays right
 pub step-right : (most : ℕ) (r : Receiver) (m p : List ℕ) → rightState most r ≡ true
     → rightState most (stepOf most r m p .receiver) ≡ true
 unfolding stepOf
 step-right most r m p e =
-    every-decision most r (length m) p (λ d. rightState most (carried r m p d .receiver) ≡ true)
+    every-decision most r (length m) p (λ d. rightState most (carriedOut r m p d .receiver) ≡ true)
     (λ n low high. e)
     (λ e i n h low high k. free-right most r i h e)
     (λ e s i at again then f. right-holds most (withState r i then)
@@ -66,7 +66,7 @@ pub refused-unchanged : (most : ℕ) (r : Receiver) (m p : List ℕ) (n : ℕ) �
 unfolding stepOf
 refused-unchanged most r m p n e n20 n21 n22 =
     every-decision most r (length m) p
-    (λ d. carried r m p d .said ≡ refused n → Unchanged r m (carried r m p d .receiver) (carried r m p d .memory))
+    (λ d. carriedOut r m p d .said ≡ refused n → Unchanged r m (carriedOut r m p d .receiver) (carriedOut r m p d .memory))
     (λ k low high s. record { setup = refl; slots = refl; memory = refl })
     (λ x i k h low high c s.
     let same : k ≡ n = cc in
@@ -83,8 +83,8 @@ pub refused-freed : (most : ℕ) (r : Receiver) (m p : List ℕ) (n : ℕ) → s
 unfolding stepOf
 refused-freed most r m p n e twenty =
     every-decision most r (length m) p
-    (λ d. carried r m p d .said ≡ refused n
-    → SlotFreed (keyOf p) r m (carried r m p d .receiver) (carried r m p d .memory))
+    (λ d. carriedOut r m p d .said ≡ refused n
+    → SlotFreed (keyOf p) r m (carriedOut r m p d .receiver) (carriedOut r m p d .memory))
     (λ k low high s.
     let same : k ≡ n = cc in
     absurd (none k same high))
@@ -107,7 +107,7 @@ pub one-slot : (most : ℕ) (r : Receiver) (m p : List ℕ)
     → OneSlot r m (stepOf most r m p .receiver) (stepOf most r m p .memory)
 unfolding stepOf
 one-slot most r m p =
-    every-decision most r (length m) p (λ d. OneSlot r m (carried r m p d .receiver) (carried r m p d .memory))
+    every-decision most r (length m) p (λ d. OneSlot r m (carriedOut r m p d .receiver) (carriedOut r m p d .memory))
     (λ n low high. record {
       slot = 0;
       one-of-four = lit< tt;

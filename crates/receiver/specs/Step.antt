@@ -49,10 +49,10 @@ answerOf (Gathering key sequence unit now) slot bytes again = held slot bytes ag
 -- a decision carried out. "1, 2 .. 15, 16, 17, 18, 19: number; all unchanged"; "20, 21, 22: number; that slot becomes
 -- free, memory unchanged". "message memory of exactly 4,096 lent bytes, 1,024 for each slot": slot i has those from
 -- 1,024 × i on.
-abbrev pub carried : Receiver → List ℕ → List ℕ → Decision → Left
-carried r m p (refuse n) = record { said = refused n; receiver = r; memory = m }
-carried r m p (release slot n) = record { said = refused n; receiver = withState r slot Free; memory = m }
-carried r m p (put slot at again then) =
+abbrev pub carriedOut : Receiver → List ℕ → List ℕ → Decision → Left
+carriedOut r m p (refuse n) = record { said = refused n; receiver = r; memory = m }
+carriedOut r m p (release slot n) = record { said = refused n; receiver = withState r slot Free; memory = m }
+carriedOut r m p (put slot at again then) =
     record {
       said = answerOf then slot (at + length (bodyOf p)) again;
       receiver = withState r slot then;
@@ -61,4 +61,4 @@ carried r m p (put slot at again then) =
 
 -- one packet given to the message rules
 unfoldable pub stepOf : ℕ → Receiver → List ℕ → List ℕ → Left
-stepOf most r m p = carried r m p (decided most r (length m) p)
+stepOf most r m p = carriedOut r m p (decided most r (length m) p)

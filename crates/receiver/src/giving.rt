@@ -9,7 +9,7 @@ ghost use lib.ListN.{length};
 ghost use Rattle.octets.specs.Bytes.{laid};
 ghost use Rattle.mctp.specs.Packet.{bodyOf};
 ghost use Rattle.decision.specs.Rules.{planned};
-ghost use Rattle.receiver.specs.Step.{says, answerOf, left, carried, stepOf};
+ghost use Rattle.receiver.specs.Step.{says, answerOf, left, carriedOut, stepOf};
 
 pub enum Answer {
     Refused {
@@ -70,7 +70,7 @@ fn answer_of(then: SlotState, slot: u8, bytes: usize, again: bool) -> Answer
 }
 
 fn carry_out(receiver: Receiver, memory: &mut [u8], packet: &[u8], plan: Plan) -> Given
-    ensures { λ r. ⌜ left r (now (memory .exit)) ≡ carried receiver (now (memory .entry)) (now (packet .entry))
+    ensures { λ r. ⌜ left r (now (memory .exit)) ≡ carriedOut receiver (now (memory .entry)) (now (packet .entry))
         (planned plan) ⌝ }
 {
     match plan {

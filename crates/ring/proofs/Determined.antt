@@ -5,17 +5,17 @@ use contract.Lifetimes.{Lfts}
 use Rattle.octets.proofs.Choice.{determined}
 use Rattle.mctp.proofs.Refusals.{number-injective}
 use Rattle.mctp.specs.Refusals.{numberOf}
-use Rattle.ring.specs.declared.reading.Taken.{Taken}
-use Rattle.ring.specs.declared.reading.Taken.the-variants as taken
-use Rattle.ring.specs.declared.writing.Put.{Put}
-use Rattle.ring.specs.declared.writing.Put.the-variants as put
+use Rattle.ring.specs.declared.answer.Carried.{Carried}
+use Rattle.ring.specs.declared.answer.Carried.the-variants as taken
+use Rattle.ring.specs.declared.answer.Written.{Written}
+use Rattle.ring.specs.declared.answer.Written.the-variants as put
 use Rattle.ring.specs.Reading as reading
 use Rattle.ring.specs.Writing as writing
 use Rattle.ring.proofs.reading.read.Reads as read
 use Rattle.ring.proofs.writing.write.Reads as write
 
 -- an answer of reading is told by its number and values
-pub taken-injective : (r s : Taken) → reading.saidOf r ≡ reading.saidOf s → r ≡ s
+pub taken-injective : (r s : Carried) → reading.saidOf r ≡ reading.saidOf s → r ≡ s
 taken-injective (taken.Packet a b) (taken.Packet c d) e = cc
 taken-injective (taken.Packet a b) taken.Empty e = cc
 taken-injective (taken.Packet a b) (taken.Skipped n d) e = cc
@@ -39,7 +39,7 @@ taken-injective (taken.Refused m) (taken.Refused n) e =
     ap taken.Refused (number-injective m n same)
 
 -- an answer of writing too
-pub put-injective : (r s : Put) → writing.saidOf r ≡ writing.saidOf s → r ≡ s
+pub put-injective : (r s : Written) → writing.saidOf r ≡ writing.saidOf s → r ≡ s
 put-injective (put.Stored a) (put.Stored b) e = cc
 put-injective (put.Stored a) (put.Refused n) e = cc
 put-injective (put.Refused m) (put.Stored b) e = cc
@@ -48,14 +48,14 @@ put-injective (put.Refused m) (put.Refused n) e =
     ap put.Refused (number-injective m n same)
 
 -- the answer of `read`, and the output
-pub read-determined : (κs : Lfts 2) (a : _) (r q : Taken) (e f : _) → read.Post κs a r e → read.Post κs a q f
-    → (r ≡ q) × (e .1 .1 .1 .1 .1 .0 .now ≡ f .1 .1 .1 .1 .1 .0 .now)
+pub read-determined : (κs : Lfts 2) (a : _) (r q : Carried) (e f : _) → read.Post κs a r e → read.Post κs a q f
+    → (r ≡ q) × (e .1 .1 .1 .1 .0 .now ≡ f .1 .1 .1 .1 .0 .now)
 read-determined κs a r q e f p o =
     let same = determined p o in
     (taken-injective r q (ap (λ (l : reading.Left). l .says) same), ap (λ (l : reading.Left). l .output) same)
 
 -- the answer of `write`, and the ring
-pub write-determined : (κs : Lfts 2) (a : _) (r q : Put) (e f : _) → write.Post κs a r e → write.Post κs a q f
+pub write-determined : (κs : Lfts 2) (a : _) (r q : Written) (e f : _) → write.Post κs a r e → write.Post κs a q f
     → (r ≡ q) × (e .0 .now ≡ f .0 .now)
 write-determined κs a r q e f p o =
     let same = determined p o in

@@ -10,7 +10,7 @@ use lib.ListN.{length, take, drop}
 use lib.Seq.{length-take-le, take-at, take-length}
 use Rattle.octets.specs.Bytes.{fronted}
 use Rattle.octets.proofs.Choice.{both, within-bounds}
-use Rattle.mctp.specs.Packet.{packetSize}
+use Rattle.mctp.specs.Packet.{sizeRight}
 use Rattle.mmbi.specs.declared.interface.Flags.{Flags}
 use Rattle.mmbi.specs.Interface.{normalRuntime, stateOf, mayRead, mayWrite}
 use Rattle.mmbi.specs.Pointers.{pointerRight}
@@ -20,13 +20,13 @@ use Rattle.ring.specs.Packet.{wholeFor, ringBytes}
 use Rattle.ring.specs.Reading as reading
 use Rattle.ring.specs.Runs.{allSized, spaceFor, allBytes, Kept, pointerAfter, wrote, writeAll, queued}
 use Rattle.ring.specs.Runs.{allReadable, andThen, readAll}
-use Rattle.ring.specs.Turn.{turn, stored}
+use Rattle.ring.specs.Round.{roundFrom, stored}
 use Rattle.ring.specs.Writing as writing
 use Rattle.ring.proofs.Held.{Holds, holds-none, holds-written, holds-taken}
 use Rattle.ring.proofs.Numbers.{filled-below, filled-empty, filled-room, filled-written}
 use Rattle.ring.proofs.Readings as readings
 use Rattle.ring.proofs.RoundTrip.{read-first, room-none}
-use Rattle.ring.proofs.Turns.{turn-length}
+use Rattle.ring.proofs.Rounds.{round-length}
 use Rattle.ring.proofs.Writings as writings
 
 -- packets written in a state that lets a ring be written
@@ -34,7 +34,7 @@ module _ (most configured : ℕ) (flags : Flags) (may : mayWrite (stateOf flags)
   -- a packet that fits is stored, and the write pointer moves on
   wrote-one : (kept : Kept) (held : List (List ℕ)) (p : List ℕ)
       → Holds most configured (kept .ring) read (kept .write) held
-      → packetSize most (length p) ≡ true → wholeFor (length p) ≤ roomOf configured read (kept .write)
+      → sizeRight most (length p) ≡ true → wholeFor (length p) ≤ roomOf configured read (kept .write)
       → wrote most configured flags read kept p
       ≡ record {
         ring = stored (kept .ring) (kept .write) (ringBytes p);
@@ -70,7 +70,7 @@ module _ (most configured : ℕ) (flags : Flags) (may : mayWrite (stateOf flags)
   unfolding writeAll allSized spaceFor
   all-written kept held [] h sized room = rw (append-nil held) h
   all-written kept held (p ∷ packets) h sized room =
-      let s = both (packetSize most (length p)) (allSized most packets) sized in
+      let s = both (sizeRight most (length p)) (allSized most packets) sized in
       let n = wholeFor (length p) in
       let fits : n ≤ roomOf configured read (kept .write) = omega arith in
       let one = wrote-one kept held p h (s .0) fits in
@@ -99,7 +99,7 @@ module _ (most configured : ℕ) (ring : List ℕ) (write : ℕ) where
       let same = h .set-up .same in
       let none : filledOf configured read write ≡ 0 =
       sym
-      (length-take-le (filledOf configured read write) (turn read ring) (omega (arith, turn-length read ring)))
+      (length-take-le (filledOf configured read write) (roundFrom read ring) (omega (arith, round-length read ring)))
       ∙ ap length (h .bytes) in
       readings.taken-empty most ring configured true read write output
       (readings.set-up-holds most configured (length ring) (h .set-up)) room refl
@@ -126,7 +126,7 @@ module _ (most configured : ℕ) (ring : List ℕ) (write : ℕ) where
         let m = both (mayRead (stateOf flags)) (allReadable states) may in
         one-read flags states read (m .0)
         ∙ ap
-        (λ (s : reading.Said). andThen s (reading.outputOf s (turn read ring) out)
+        (λ (s : reading.Said). andThen s (reading.outputOf s (roundFrom read ring) out)
         (readAll most configured ring out write states))
         (all-read-empty read (length out) h room)
     all-read (flags ∷ states) read (p ∷ packets) h may =
@@ -154,7 +154,7 @@ module _ (most configured read : ℕ) (packets : List (List ℕ)) (states : List
   -- whatever was done before: the packets whose bytes are what is filled
   pub filled-back : (ring : List ℕ) (write : ℕ) → setUpRight most configured (length ring) ≡ true
       → pointersRight configured read write ≡ true → allSized most packets ≡ true
-      → take (filledOf configured read write) (turn read ring) ≡ allBytes packets → length states ≡ length packets
+      → take (filledOf configured read write) (roundFrom read ring) ≡ allBytes packets → length states ≡ length packets
       → readAll most configured ring out write states read ≡ packets
   filled-back ring write right pointers sized bytes many =
       let p = readings.pointers-facts configured read write pointers in
@@ -185,7 +185,7 @@ module _ (most configured read : ℕ) (packets : List (List ℕ)) (states : List
 
 -- nothing is queued where the state doesn't let a ring be written
 pub not-queued : (most : ℕ) (ring : List ℕ) (configured : ℕ) (flags : Flags) (read write : ℕ) (p : List ℕ)
-    → setUpRight most configured (length ring) ≡ true → packetSize most (length p) ≡ true
+    → setUpRight most configured (length ring) ≡ true → sizeRight most (length p) ≡ true
     → mayWrite (stateOf flags) ≡ false
     → writing.writeOf most ring configured (mayWrite (stateOf flags)) read write p
     ≡ writing.left (writing.refused 11) ring

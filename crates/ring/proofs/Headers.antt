@@ -13,7 +13,7 @@ use Rattle.octets.specs.Words.{Order, lowFirst, highFirst, wordAt, wordBytes}
 use Rattle.octets.proofs.Words.{word-back}
 use Rattle.ring.specs.Packet.{headerAt, paddingField, typeField, mctpType, wholeOf, sizeOf, packetOf, paddingFor}
 use Rattle.ring.specs.Packet.{wholeFor, headerFor, ringBytes}
-use Rattle.ring.specs.Turn.{turn}
+use Rattle.ring.specs.Round.{roundFrom}
 
 pub word-length : (w : ℕ) → length (wordBytes highFirst w) ≡ 4
 unfolding wordBytes
@@ -27,10 +27,10 @@ word-four lowFirst s t i j e = cc (simp add-zero at (e 0 (lit< tt)), e 1 (lit< t
 word-four highFirst s t i j e = cc (simp add-zero at (e 0 (lit< tt)), e 1 (lit< tt), e 2 (lit< tt), e 3 (lit< tt))
 
 -- a header's four bytes don't run over the ring's end
-pub header-straight : (ring : List ℕ) (p : ℕ) → p + 4 ≤ length ring → wordAt highFirst ring p ≡ headerAt (turn p ring)
-unfolding turn
+pub header-straight : (ring : List ℕ) (p : ℕ) → p + 4 ≤ length ring → wordAt highFirst ring p ≡ headerAt (roundFrom p ring)
+unfolding roundFrom
 header-straight ring p h =
-    word-four highFirst ring (turn p ring) p 0
+    word-four highFirst ring (roundFrom p ring) p 0
     (λ (k : ℕ) (below : k < 4).
     rw (zero-add k)
     (sym

@@ -10,12 +10,12 @@ use lib.ListN.{length, take, drop, length-append, length-drop, take-append-drop}
 use lib.Seq.{take-at, drop-at, take-append-le, take-add, length-take-le}
 use Rattle.octets.proofs.Choice.{both, within-bounds}
 use Rattle.octets.proofs.Laid.{laid-fits}
-use Rattle.mctp.specs.Packet.{packetSize}
+use Rattle.mctp.specs.Packet.{sizeRight}
 use Rattle.ring.specs.Numbers.{filledOf, roomOf, nextOf}
 use Rattle.ring.specs.Packet.{headerAt, paddingField, typeField, wholeOf, sizeOf, packetOf, wholeFor, headerFor}
 use Rattle.ring.specs.Packet.{ringBytes}
 use Rattle.ring.specs.Runs.{allSized, allBytes}
-use Rattle.ring.specs.Turn.{turn, stored}
+use Rattle.ring.specs.Round.{roundFrom, stored}
 use Rattle.ring.proofs.Headers.{header-padding, header-type, header-whole, header-size, header-back, packet-back}
 use Rattle.ring.proofs.Headers.{bytes-length}
 use Rattle.mmbi.proofs.Pointers.{Pointer}
@@ -23,7 +23,7 @@ use Rattle.ring.proofs.Numbers.{filled-below, filled-near, filled-room,
 use Rattle.ring.proofs.Numbers.{next-filled}
 use Rattle.ring.proofs.Readings as readings
 use Rattle.ring.proofs.Readings.{SetUp}
-use Rattle.ring.proofs.Turns.{turn-length, turn-turn, stored-length, stored-behind}
+use Rattle.ring.proofs.Rounds.{round-length, round-round, stored-length, stored-behind}
 
 -- the ring holds these packets, the first in first: what is filled are their bytes
 pub record Holds (most configured : ℕ) (ring : List ℕ) (read write : ℕ) (packets : List (List ℕ)) : Type 0 where
@@ -31,7 +31,7 @@ pub record Holds (most configured : ℕ) (ring : List ℕ) (read write : ℕ) (p
   pub from : Pointer configured read
   pub to : Pointer configured write
   pub sized : allSized most packets ≡ true
-  pub bytes : take (filledOf configured read write) (turn read ring) ≡ allBytes packets
+  pub bytes : take (filledOf configured read write) (roundFrom read ring) ≡ allBytes packets
 
 -- "Equal pointers mean empty."
 pub holds-none : (most configured : ℕ) (ring : List ℕ) (pointer : ℕ) → SetUp most configured (length ring)
@@ -40,14 +40,14 @@ unfolding allSized allBytes
 holds-none most configured ring pointer set-up p =
     let none : filledOf configured pointer pointer ≡ 0 =
     filled-near configured pointer pointer (omega arith) (p .below) ∙ omega arith in
-    record { set-up = set-up; from = p; to = p; sized = refl; bytes = ap (λ (n : ℕ). take n (turn pointer ring)) none }
+    record { set-up = set-up; from = p; to = p; sized = refl; bytes = ap (λ (n : ℕ). take n (roundFrom pointer ring)) none }
 
 sized-more : (most : ℕ) (packets : List (List ℕ)) (p : List ℕ) → allSized most packets ≡ true
-    → packetSize most (length p) ≡ true → allSized most (packets ++ (p ∷ [])) ≡ true
+    → sizeRight most (length p) ≡ true → allSized most (packets ++ (p ∷ [])) ≡ true
 unfolding allSized
 sized-more most [] p h k = rw k
 sized-more most (q ∷ packets) p h k =
-    let b = both (packetSize most (length q)) (allSized most packets) h in
+    let b = both (sizeRight most (length q)) (allSized most packets) h in
     rw (b .0, sized-more most packets p (b .1) k)
 
 bytes-more : (packets : List (List ℕ)) (p : List ℕ) → allBytes (packets ++ (p ∷ [])) ≡ allBytes packets ++ ringBytes p
@@ -61,43 +61,43 @@ bytes-more (q ∷ packets) p =
 module _ (configured : ℕ) (ring : List ℕ) (read write : ℕ) (same : configured ≡ length ring)
     (from : Pointer configured read) (to : Pointer configured write) (bytes : List ℕ)
     (fits : filledOf configured read write + length bytes ≤ configured) where
-  written-behind : turn read (stored ring write bytes)
-      ≡ take (filledOf configured read write) (turn read ring)
-      ++ (bytes ++ drop (filledOf configured read write + length bytes) (turn read ring))
+  written-behind : roundFrom read (stored ring write bytes)
+      ≡ take (filledOf configured read write) (roundFrom read ring)
+      ++ (bytes ++ drop (filledOf configured read write + length bytes) (roundFrom read ring))
   written-behind =
       let f = filledOf configured read write in
       let at : write ≡ nextOf (length ring) read f = sym (next-filled configured read write (from .below) (to .below))
       ∙ ap (λ (n : ℕ). nextOf n read f) same in
-      ap (λ (p : ℕ). turn read (stored ring p bytes)) at
+      ap (λ (p : ℕ). roundFrom read (stored ring p bytes)) at
       ∙ stored-behind ring read f bytes (omega (arith, from .below)) (omega arith)
-      ∙ laid-fits (turn read ring) f bytes (omega (arith, turn-length read ring))
+      ∙ laid-fits (roundFrom read ring) f bytes (omega (arith, round-length read ring))
 
   -- "Only the packet's own ring bytes change": no byte that a reader could still take has changed
-  pub written-keeps : take (filledOf configured read write) (turn read (stored ring write bytes))
-      ≡ take (filledOf configured read write) (turn read ring)
+  pub written-keeps : take (filledOf configured read write) (roundFrom read (stored ring write bytes))
+      ≡ take (filledOf configured read write) (roundFrom read ring)
   written-keeps =
       let f = filledOf configured read write in
       ap (take f) written-behind
-      ∙ take-at (take f (turn read ring)) (bytes ++ drop (f + length bytes) (turn read ring)) f
-      (length-take-le f (turn read ring) (omega (arith, turn-length read ring)))
+      ∙ take-at (take f (roundFrom read ring)) (bytes ++ drop (f + length bytes) (roundFrom read ring)) f
+      (length-take-le f (roundFrom read ring) (omega (arith, round-length read ring)))
 
   -- with the new bytes behind them
-  written-adds : take (filledOf configured read write + length bytes) (turn read (stored ring write bytes))
-      ≡ take (filledOf configured read write) (turn read ring) ++ bytes
+  written-adds : take (filledOf configured read write + length bytes) (roundFrom read (stored ring write bytes))
+      ≡ take (filledOf configured read write) (roundFrom read ring) ++ bytes
   written-adds =
       let f = filledOf configured read write in
-      let front = length-take-le f (turn read ring) (omega (arith, turn-length read ring)) in
+      let front = length-take-le f (roundFrom read ring) (omega (arith, round-length read ring)) in
       ap (take (f + length bytes)) (written-behind
-      ∙ sym (append-assoc (take f (turn read ring)) bytes (drop (f + length bytes) (turn read ring))))
-      ∙ take-at (take f (turn read ring) ++ bytes) (drop (f + length bytes) (turn read ring)) (f + length bytes)
-      (length-append (take f (turn read ring)) bytes ∙ ap (λ (n : ℕ). n + length bytes) front)
+      ∙ sym (append-assoc (take f (roundFrom read ring)) bytes (drop (f + length bytes) (roundFrom read ring))))
+      ∙ take-at (take f (roundFrom read ring) ++ bytes) (drop (f + length bytes) (roundFrom read ring)) (f + length bytes)
+      (length-append (take f (roundFrom read ring)) bytes ∙ ap (λ (n : ℕ). n + length bytes) front)
 
 whole-fours : (n : ℕ) → wholeFor n % 4 ≡ 0
 whole-fours n = omega arith
 
 -- a packet put in stands last
 pub holds-written : (most configured : ℕ) (ring : List ℕ) (read write : ℕ) (packets : List (List ℕ)) (p : List ℕ)
-    → Holds most configured ring read write packets → packetSize most (length p) ≡ true
+    → Holds most configured ring read write packets → sizeRight most (length p) ≡ true
     → wholeFor (length p) ≤ roomOf configured read write
     → Holds most configured (stored ring write (ringBytes p)) read (nextOf configured write (wholeFor (length p)))
     (packets ++ (p ∷ []))
@@ -118,7 +118,7 @@ holds-written most configured ring read write packets p h sized room =
           (whole-fours (length p));
       sized = sized-more most packets p (h .sized) sized;
       bytes =
-          ap (λ (k : ℕ). take k (turn read (stored ring write (ringBytes p))))
+          ap (λ (k : ℕ). take k (roundFrom read (stored ring write (ringBytes p))))
           (filled-written configured read write (wholeFor (length p)) (h .from .below) (h .to .below) (omega arith)
           ∙ ap (λ (k : ℕ). f + k) (sym n))
           ∙ written-adds configured ring read write same (h .from) (h .to) (ringBytes p) fits
@@ -126,9 +126,9 @@ holds-written most configured ring read write packets p h sized room =
           ∙ sym (bytes-more packets p);
     }
 
--- what stands after n bytes, in a list turned by them
-left-over : (s : List ℕ) (n m : ℕ) → n + m ≤ length s → take m (turn n s) ≡ drop n (take (n + m) s)
-unfolding turn
+-- what stands after n bytes, in a list rounded by them
+left-over : (s : List ℕ) (n m : ℕ) → n + m ≤ length s → take m (roundFrom n s) ≡ drop n (take (n + m) s)
+unfolding roundFrom
 left-over s n m h =
     take-append-le m (drop n s) (take n s) (omega (arith, length-drop n s))
     ∙ sym (ap (drop n) (take-add n m s) ∙ drop-at (take n s) (take m (drop n s)) n (length-take-le n s (omega arith)))
@@ -136,19 +136,19 @@ left-over s n m h =
 -- the packet taken out stood first
 module _ (most configured : ℕ) (ring : List ℕ) (read write : ℕ) (packets : List (List ℕ)) (p : List ℕ)
     (h : Holds most configured ring read write (p ∷ packets)) where
-  split : take (filledOf configured read write) (turn read ring) ≡ ringBytes p ++ allBytes packets
+  split : take (filledOf configured read write) (roundFrom read ring) ≡ ringBytes p ++ allBytes packets
   unfolding allBytes
   split = h .bytes
 
-  front : turn read ring ≡ ringBytes p ++ (allBytes packets ++ drop (filledOf configured read write) (turn read ring))
+  front : roundFrom read ring ≡ ringBytes p ++ (allBytes packets ++ drop (filledOf configured read write) (roundFrom read ring))
   front =
-      sym (take-append-drop (filledOf configured read write) (turn read ring))
-      ∙ ap (λ (s : List ℕ). s ++ drop (filledOf configured read write) (turn read ring)) split
-      ∙ append-assoc (ringBytes p) (allBytes packets) (drop (filledOf configured read write) (turn read ring))
+      sym (take-append-drop (filledOf configured read write) (roundFrom read ring))
+      ∙ ap (λ (s : List ℕ). s ++ drop (filledOf configured read write) (roundFrom read ring)) split
+      ∙ append-assoc (ringBytes p) (allBytes packets) (drop (filledOf configured read write) (roundFrom read ring))
 
-  sizes : (packetSize most (length p) ≡ true) × (allSized most packets ≡ true)
+  sizes : (sizeRight most (length p) ≡ true) × (allSized most packets ≡ true)
   unfolding allSized
-  sizes = both (packetSize most (length p)) (allSized most packets) (h .sized)
+  sizes = both (sizeRight most (length p)) (allSized most packets) (h .sized)
 
   short : (5 ≤ length p) × (length p ≤ 4 + most)
   short = within-bounds 5 (4 + most) (length p) (sizes .0)
@@ -167,22 +167,22 @@ module _ (most configured : ℕ) (ring : List ℕ) (read write : ℕ) (packets :
         bytes-length p,
         length-append (ringBytes p) (allBytes packets),
         ap length split,
-        length-take-le (filledOf configured read write) (turn read ring)
-            (omega (arith, below, turn-length read ring)),
+        length-take-le (filledOf configured read write) (roundFrom read ring)
+            (omega (arith, below, round-length read ring)),
       )
 
-  header : headerAt (turn read ring) ≡ headerFor (length p)
+  header : headerAt (roundFrom read ring) ≡ headerFor (length p)
   header =
       ap headerAt front ∙ header-back p
-      (allBytes packets ++ drop (filledOf configured read write) (turn read ring)) small
+      (allBytes packets ++ drop (filledOf configured read write) (roundFrom read ring)) small
 
   -- it reads back
-  pub held-packet : packetOf (turn read ring) ≡ p
+  pub held-packet : packetOf (roundFrom read ring) ≡ p
   held-packet =
       ap packetOf front ∙ packet-back p
-      (allBytes packets ++ drop (filledOf configured read write) (turn read ring)) small
+      (allBytes packets ++ drop (filledOf configured read write) (roundFrom read ring)) small
 
-  whole : wholeOf (headerAt (turn read ring)) ≡ wholeFor (length p)
+  whole : wholeOf (headerAt (roundFrom read ring)) ≡ wholeFor (length p)
   whole = ap wholeOf header ∙ header-whole (length p)
 
   pub held-good : (output : ℕ) → 4 + most ≤ output
@@ -218,11 +218,11 @@ module _ (most configured : ℕ) (ring : List ℕ) (read write : ℕ) (packets :
   holds-taken =
       let f = filledOf configured read write in
       let n = wholeFor (length p) in
-      let s = turn read ring in
+      let s = roundFrom read ring in
       let same = h .set-up .same in
       let l = h .set-up .size in
       let count : n + (f - n) ≡ f = omega (arith, held) in
-      let there = turn-length read ring in
+      let there = round-length read ring in
       let under = below in
       let in-time = held in
       let inside : n + (f - n) ≤ length s = omega arith in
@@ -234,10 +234,10 @@ module _ (most configured : ℕ) (ring : List ℕ) (read write : ℕ) (packets :
         to = h .to;
         sized = sizes .1;
         bytes =
-            ap (λ (k : ℕ). take k (turn (nextOf configured read n) ring))
+            ap (λ (k : ℕ). take k (roundFrom (nextOf configured read n) ring))
             (filled-taken configured read write n (h .from .below) (h .to .below) held)
-            ∙ ap (λ (k : ℕ). take (f - n) (turn (nextOf k read n) ring)) same
-            ∙ ap (take (f - n)) (sym (turn-turn ring read n (omega (arith, h .from .below)) (omega arith)))
+            ∙ ap (λ (k : ℕ). take (f - n) (roundFrom (nextOf k read n) ring)) same
+            ∙ ap (take (f - n)) (sym (round-round ring read n (omega (arith, h .from .below)) (omega arith)))
             ∙ left-over s n (f - n) inside
             ∙ ap (λ (k : ℕ). drop n (take k s)) count
             ∙ ap (drop n) split

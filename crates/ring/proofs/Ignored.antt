@@ -14,9 +14,9 @@ use Rattle.ring.specs.Numbers.{filledOf, nextOf}
 use Rattle.ring.specs.Packet.{headerAt, paddingField, typeField, wholeOf, sizeOf, packetOf}
 use Rattle.ring.specs.Reading.{Said, packet, empty, skipped, refused, judged, foundOf, takenOf, outputOf, left}
 use Rattle.ring.specs.Reading.{readOf}
-use Rattle.ring.specs.Turn.{turn}
+use Rattle.ring.specs.Round.{roundFrom}
 use Rattle.ring.proofs.Readings.{good, good-short}
-use Rattle.ring.proofs.Turns.{turn-length}
+use Rattle.ring.proofs.Rounds.{round-length}
 
 -- two lists whose headers agree but for the reserved bits: three bytes, and the low half of the fourth
 pub record SameHeader (s t : List ℕ) : Type 0 where
@@ -78,15 +78,15 @@ same-output (skipped number next) s t out e = refl
 same-output (refused number) s t out e = refl
 
 module _ (most : ℕ) (a b : List ℕ) (configured : ℕ) (readable : Bool) (read write : ℕ) (same : length a ≡ length b)
-    (h : SameHeader (turn read a) (turn read b)) where
+    (h : SameHeader (roundFrom read a) (roundFrom read b)) where
   same-found : foundOf most a read write ≡ foundOf most b read write
   same-found =
-      same-judged (turn read a) (turn read b) h most (filledOf (length a) read write)
-      (nextOf (length a) read (wholeOf (headerAt (turn read a))))
-      ∙ ap (λ (n : ℕ). judged most (filledOf (length a) read write) (headerAt (turn read b))
-      (nextOf (length a) read n)) (same-whole (turn read a) (turn read b) h)
-      ∙ ap (λ (n : ℕ). judged most (filledOf n read write) (headerAt (turn read b))
-      (nextOf n read (wholeOf (headerAt (turn read b))))) same
+      same-judged (roundFrom read a) (roundFrom read b) h most (filledOf (length a) read write)
+      (nextOf (length a) read (wholeOf (headerAt (roundFrom read a))))
+      ∙ ap (λ (n : ℕ). judged most (filledOf (length a) read write) (headerAt (roundFrom read b))
+      (nextOf (length a) read n)) (same-whole (roundFrom read a) (roundFrom read b) h)
+      ∙ ap (λ (n : ℕ). judged most (filledOf n read write) (headerAt (roundFrom read b))
+      (nextOf n read (wholeOf (headerAt (roundFrom read b))))) same
 
   -- two rings that differ only in reserved bits and after the header get one answer
   pub same-taken : (output : ℕ) → takenOf most a configured readable read write output
@@ -98,12 +98,12 @@ module _ (most : ℕ) (a b : List ℕ) (configured : ℕ) (readable : Bool) (rea
   -- matter
   pub same-read : (out : List ℕ)
       → ((size next : ℕ) → takenOf most a configured readable read write (length out) ≡ packet size next → (k : ℕ)
-      → k < size → getD (turn read a) (4 + k) 0 ≡ getD (turn read b) (4 + k) 0)
+      → k < size → getD (roundFrom read a) (4 + k) 0 ≡ getD (roundFrom read b) (4 + k) 0)
       → readOf most a configured readable read write out ≡ readOf most b configured readable read write out
   unfolding packetOf
   same-read out e =
-      let s = turn read a in
-      let t = turn read b in
+      let s = roundFrom read a in
+      let t = roundFrom read b in
       let agree : (size next : ℕ) → takenOf most a configured readable read write (length out) ≡ packet size next
       → packetOf s ≡ packetOf t =
       λ (size next : ℕ) (q : takenOf most a configured readable read write (length out) ≡ packet size next).
@@ -113,8 +113,8 @@ module _ (most : ℕ) (a b : List ℕ) (configured : ℕ) (readable : Bool) (rea
       let pad = same-padding s t h in
       let sizes : sizeOf (headerAt s) ≡ sizeOf (headerAt t) = omega arith in
       ap (λ (n : ℕ). take n (drop 4 s)) (sym (g .header .sized))
-      ∙ same-part s t size (omega (arith, room, turn-length read a))
-      (turn-length read a ∙ same ∙ sym (turn-length read b)) (e size next q)
+      ∙ same-part s t size (omega (arith, room, round-length read a))
+      (round-length read a ∙ same ∙ sym (round-length read b)) (e size next q)
       ∙ ap (λ (n : ℕ). take n (drop 4 t)) (g .header .sized ∙ sizes) in
       let says = same-taken (length out) in
       let output : outputOf (takenOf most a configured readable read write (length out)) s out

@@ -1,6 +1,6 @@
 pub mod Past
 pub mod Numbers
-pub mod Turns
+pub mod Rounds
 pub mod Headers
 pub mod Readings
 pub mod Writings

@@ -15,7 +15,7 @@ use Rattle.ring.specs.Numbers.{filledOf, roomOf, nextOf}
 use Rattle.ring.specs.Packet.{packetOf, headerFor, ringBytes}
 use Rattle.ring.specs.Reading as reading
 use Rattle.ring.specs.Runs.{Kept, wrote, writeAll, queued, readAll}
-use Rattle.ring.specs.Turn.{turn, stored}
+use Rattle.ring.specs.Round.{roundFrom, stored}
 use Rattle.ring.specs.Writing as writing
 
 -- the packet 01 09 0A C8 00
@@ -36,33 +36,33 @@ written = 0 ∷ 0 ∷ 0 ∷ 0 ∷ replicate 116 238 ++ (0 ∷ 0 ∷ 11 ∷ 4 ∷
 
 pub image-written : writing.writeOf 64 (replicate 128 238) 128 true 120 120 packet
     ≡ writing.left (writing.written 4) written
-unfolding writing.putOf filledOf roomOf nextOf turn stored fronted ringBytes headerFor wordBytes
+unfolding writing.putOf filledOf roomOf nextOf roundFrom stored fronted ringBytes headerFor wordBytes
 image-written = refl
 
 pub image-read : reading.readOf 64 written 128 true 120 4 (replicate 68 170)
     ≡ reading.left (reading.packet 5 4) (packet ++ replicate 63 170)
-unfolding reading.takenOf reading.judged filledOf nextOf turn fronted packetOf wordAt
+unfolding reading.takenOf reading.judged filledOf nextOf roundFrom fronted packetOf wordAt
 image-read = refl
 
 -- the same packet of another maker: reserved bits set (F4), padding AA BB CC
 pub foreign-read : reading.readOf 64
     (0 ∷ 0 ∷ 11 ∷ 244 ∷ 1 ∷ 9 ∷ 10 ∷ 200 ∷ 0 ∷ 170 ∷ 187 ∷ 204 ∷ replicate 116 238) 128 true 0 12 (replicate 68 170)
     ≡ reading.left (reading.packet 5 12) (packet ++ replicate 63 170)
-unfolding reading.takenOf reading.judged filledOf nextOf turn fronted packetOf wordAt
+unfolding reading.takenOf reading.judged filledOf nextOf roundFrom fronted packetOf wordAt
 foreign-read = refl
 
 -- PKT_LEN 0 is the header alone: with no padding 3 or 14, and the pointer moves on by four; with padding that it can't
 -- hold, 13
 pub header-alone : reading.takenOf 64 (0 ∷ 0 ∷ 0 ∷ 4 ∷ replicate 124 238) 128 true 0 12 68 ≡ reading.skipped 3 4
-unfolding reading.takenOf reading.judged filledOf nextOf turn wordAt
+unfolding reading.takenOf reading.judged filledOf nextOf roundFrom wordAt
 header-alone = refl
 
 pub other-alone : reading.takenOf 64 (0 ∷ 0 ∷ 0 ∷ 5 ∷ replicate 124 238) 128 true 0 12 68 ≡ reading.skipped 14 4
-unfolding reading.takenOf reading.judged filledOf nextOf turn wordAt
+unfolding reading.takenOf reading.judged filledOf nextOf roundFrom wordAt
 other-alone = refl
 
 pub padding-alone : reading.takenOf 64 (0 ∷ 0 ∷ 1 ∷ 4 ∷ replicate 124 238) 128 true 0 12 68 ≡ reading.refused 13
-unfolding reading.takenOf reading.judged filledOf nextOf turn wordAt
+unfolding reading.takenOf reading.judged filledOf nextOf roundFrom wordAt
 padding-alone = refl
 
 -- in each of the sixteen flag states, from 0000 to 1111: read in 1010, 1011 and 1110, written in 1010
@@ -76,7 +76,7 @@ pub read-by-state :
     ∷ reading.packet 5 4
     ∷ reading.refused 11
     ∷ [])
-unfolding stateOf reading.takenOf reading.judged filledOf nextOf turn wordAt
+unfolding stateOf reading.takenOf reading.judged filledOf nextOf roundFrom wordAt
 read-by-state = refl
 
 pub written-by-state :
@@ -105,7 +105,7 @@ threeKept =
     }
 
 pub three-queued : queued 64 128 (replicate 128 238) 100 three ≡ threeKept
-unfolding stateOf writeAll wrote writing.putOf filledOf roomOf nextOf turn stored fronted ringBytes headerFor wordBytes
+unfolding stateOf writeAll wrote writing.putOf filledOf roomOf nextOf roundFrom stored fronted ringBytes headerFor wordBytes
 three-queued = refl
 
 -- read back while the host asks for a reset, and while the controller does; one in normal runtime, one while the host
@@ -117,7 +117,7 @@ pub three-read :
     ∷ (normalRuntime ∷ askedByHost ∷ flagsOf true true true true ∷ [])
     ∷ [])
     ≡ three ∷ three ∷ (small 1 ∷ small 2 ∷ []) ∷ []
-unfolding stateOf readAll reading.takenOf reading.judged filledOf nextOf turn fronted packetOf wordAt
+unfolding stateOf readAll reading.takenOf reading.judged filledOf nextOf roundFrom fronted packetOf wordAt
 three-read = refl
 
 -- a fourth that comes then isn't written

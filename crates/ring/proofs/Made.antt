@@ -15,14 +15,14 @@ use Rattle.ring.specs.Numbers.{filledOf, nextOf}
 use Rattle.ring.specs.Packet.{headerAt, lengthField, paddingField, typeField, wholeOf, sizeOf, packetOf}
 use Rattle.ring.specs.Packet.{paddingFor, wholeFor, headerFor, ringWith, RingLayout}
 use Rattle.ring.specs.Reading.{packet, takenOf}
-use Rattle.ring.specs.Turn.{turn}
+use Rattle.ring.specs.Round.{roundFrom}
 use Rattle.ring.proofs.Numbers.{filled-below}
 use Rattle.ring.proofs.Readings.{Passed, Good, good}
-use Rattle.ring.proofs.Turns.{turn-length}
+use Rattle.ring.proofs.Rounds.{round-length}
 
-pub turn-bytes : (n : ℕ) (s : List ℕ) → Below 256 s → Below 256 (turn n s)
-unfolding turn
-turn-bytes n s b = below-append (drop n s) (take n s) (below-drop n s b) (below-take n s b)
+pub round-bytes : (n : ℕ) (s : List ℕ) → Below 256 s → Below 256 (roundFrom n s)
+unfolding roundFrom
+round-bytes n s b = below-append (drop n s) (take n s) (below-drop n s b) (below-take n s b)
 
 -- a number by the four fields of a header
 by-fields : (header : ℕ) → header
@@ -60,7 +60,7 @@ held s n k h = simp (length-take, length-drop) (omega arith)
 module _ (most : ℕ) (ring : List ℕ) (configured : ℕ) (readable : Bool) (read write output size next : ℕ)
     (b : Below 256 ring) (e : takenOf most ring configured readable read write output ≡ packet size next) where
   abbrev s : List ℕ
-  s = turn read ring
+  s = roundFrom read ring
 
   g : Good most ring configured readable read write output size next
   g = good most ring configured readable read write output size next e
@@ -75,7 +75,7 @@ module _ (most : ℕ) (ring : List ℕ) (configured : ℕ) (readable : Bool) (re
       omega (
         arith,
         header .held,
-        turn-length read ring,
+        round-length read ring,
         g .set-up .same,
         filled-below configured read write
             (g .from .below) (g .to .below),
@@ -93,7 +93,7 @@ module _ (most : ℕ) (ring : List ℕ) (configured : ℕ) (readable : Bool) (re
       let reserved = headerAt s / 16 % 16 in
       let n = length (packetOf s) in
       let head : take 4 s ≡ wordBytes highFirst (headerFor n + 16 * reserved) =
-      bytes-back highFirst s 0 (turn-bytes read ring b) (omega (arith, lies, header .counted))
+      bytes-back highFirst s 0 (round-bytes read ring b) (omega (arith, lies, header .counted))
       ∙ ap (wordBytes highFirst)
       (header-is (headerAt s) (header .ours) (header .counted)
       ∙ ap (λ (k : ℕ). headerFor k + 16 * reserved) (sym taken-length)) in

@@ -13,7 +13,8 @@ use lib.Dec.{eqb}
 use Rattle.octets.specs.Choice.{within}
 use Rattle.octets.proofs.Choice.{both, within-bounds, within-holds}
 use Rattle.mmbi.proofs.Pointers.{Pointer}
-use Rattle.ring.specs.Numbers.{lengthRight, filledOf, roomOf, nextOf}
+use Rattle.mmbi.specs.Pointers.{lengthRight}
+use Rattle.ring.specs.Numbers.{filledOf, roomOf, nextOf}
 
 -- a length inside the rule, as numbers
 pub record Length (length : ℕ) : Type 0 where

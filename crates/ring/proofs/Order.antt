@@ -8,7 +8,7 @@ use lib.ListN.{replicate}
 use Rattle.octets.specs.Words.{wordAt}
 use Rattle.ring.specs.Numbers.{filledOf, roomOf, nextOf}
 use Rattle.ring.specs.Reading as reading
-use Rattle.ring.specs.Turn.{turn}
+use Rattle.ring.specs.Round.{roundFrom}
 use Rattle.ring.specs.Writing as writing
 
 -- a ring of 128 bytes that starts with this header
@@ -40,7 +40,7 @@ pub record Reading : Type 0 where
       ≡ reading.packet 5 0 ∷ reading.packet 5 0 ∷ reading.refused 13 ∷ reading.refused 13 ∷ []
 
 pub reading-order : Reading
-unfolding reading.takenOf reading.judged filledOf nextOf turn wordAt
+unfolding reading.takenOf reading.judged filledOf nextOf roundFrom wordAt
 reading-order =
     record {
       one-two = refl;

@@ -12,16 +12,17 @@ use lib.ListN.{length, take, drop, length-drop}
 use lib.Seq.{take-append-le}
 use lib.Dec.{ltb, eqb}
 use Rattle.octets.proofs.Choice.{both, within-bounds, within-holds}
-use Rattle.mctp.specs.Packet.{packetSize, mostRight}
+use Rattle.mctp.specs.Packet.{sizeRight, bodyRight}
 use Rattle.mmbi.specs.Pointers.{pointerRight}
-use Rattle.ring.specs.Numbers.{lengthRight, setUpRight, pointersRight, filledOf, nextOf}
+use Rattle.mmbi.specs.Pointers.{lengthRight}
+use Rattle.ring.specs.Numbers.{setUpRight, pointersRight, filledOf, nextOf}
 use Rattle.ring.specs.Packet.{headerAt, wholeOf, paddingField, typeField, sizeOf, mctpType, packetOf}
 use Rattle.ring.specs.Reading.{packet, empty, skipped, refused, judged, foundOf, takenOf}
-use Rattle.ring.specs.Turn.{turn}
+use Rattle.ring.specs.Round.{roundFrom}
 use Rattle.ring.proofs.Past.{past}
 use Rattle.mmbi.proofs.Pointers.{Pointer, pointer-facts, pointer-holds}
 use Rattle.ring.proofs.Numbers.{Length, length-facts, length-holds, filled-below}
-use Rattle.ring.proofs.Turns.{turn-length, turn-turn}
+use Rattle.ring.proofs.Rounds.{round-length, round-round}
 
 -- which headers get 13, 14, 3, and which a packet
 module _ (most filled header next : ℕ) where
@@ -54,7 +55,7 @@ module _ (most filled header next : ℕ) where
           )
 
       module _ (ours : typeField header ≡ mctpType) where
-        pub judged-3 : packetSize most (sizeOf header) ≡ false → judged most filled header next ≡ skipped 3 next
+        pub judged-3 : sizeRight most (sizeOf header) ≡ false → judged most filled header next ≡ skipped 3 next
         unfolding judged
         judged-3 h =
             rw (
@@ -65,7 +66,7 @@ module _ (most filled header next : ℕ) where
               h,
             )
 
-        pub judged-packet : packetSize most (sizeOf header) ≡ true
+        pub judged-packet : sizeRight most (sizeOf header) ≡ true
             → judged most filled header next ≡ packet (sizeOf header) next
         unfolding judged
         judged-packet h =
@@ -86,8 +87,8 @@ pub record SetUp (most configured lent : ℕ) : Type 0 where
 
 pub set-up-facts : (most configured lent : ℕ) → setUpRight most configured lent ≡ true → SetUp most configured lent
 set-up-facts most configured lent e =
-    let h = both (mostRight most && lengthRight configured) (eqb configured lent) e in
-    let k = both (mostRight most) (lengthRight configured) (h .0) in
+    let h = both (bodyRight most && lengthRight configured) (eqb configured lent) e in
+    let k = both (bodyRight most) (lengthRight configured) (h .0) in
     let m = within-bounds 64 246 most (k .0) in
     record { low = m .0; high = m .1; size = length-facts configured (k .1); same = eqb-true configured lent (h .1) }
 
@@ -146,34 +147,34 @@ module _ (most : ℕ) (ring : List ℕ) (configured : ℕ) (readable : Bool) (re
 -- which packets get 13, 14 and 3: "number and the pointer after the packet"
 module _ (most : ℕ) (ring : List ℕ) (configured : ℕ) (readable : Bool) (read write output : ℕ)
     (found : takenOf most ring configured readable read write output ≡ foundOf most ring read write) where
-  pub taken-13-whole : filledOf (length ring) read write < wholeOf (headerAt (turn read ring))
+  pub taken-13-whole : filledOf (length ring) read write < wholeOf (headerAt (roundFrom read ring))
       → takenOf most ring configured readable read write output ≡ refused 13
   taken-13-whole h =
-      found ∙ judged-13-whole most (filledOf (length ring) read write) (headerAt (turn read ring))
-      (nextOf (length ring) read (wholeOf (headerAt (turn read ring)))) h
+      found ∙ judged-13-whole most (filledOf (length ring) read write) (headerAt (roundFrom read ring))
+      (nextOf (length ring) read (wholeOf (headerAt (roundFrom read ring)))) h
 
-  module _ (held : wholeOf (headerAt (turn read ring)) ≤ filledOf (length ring) read write) where
-    pub taken-13-padding : wholeOf (headerAt (turn read ring)) < 4 + paddingField (headerAt (turn read ring))
+  module _ (held : wholeOf (headerAt (roundFrom read ring)) ≤ filledOf (length ring) read write) where
+    pub taken-13-padding : wholeOf (headerAt (roundFrom read ring)) < 4 + paddingField (headerAt (roundFrom read ring))
         → takenOf most ring configured readable read write output ≡ refused 13
     taken-13-padding h =
-        found ∙ judged-13-padding most (filledOf (length ring) read write) (headerAt (turn read ring))
-        (nextOf (length ring) read (wholeOf (headerAt (turn read ring)))) held h
+        found ∙ judged-13-padding most (filledOf (length ring) read write) (headerAt (roundFrom read ring))
+        (nextOf (length ring) read (wholeOf (headerAt (roundFrom read ring)))) held h
 
-    module _ (counted : 4 + paddingField (headerAt (turn read ring)) ≤ wholeOf (headerAt (turn read ring))) where
-      pub taken-14 : (typeField (headerAt (turn read ring)) ≡ mctpType → ⊥)
+    module _ (counted : 4 + paddingField (headerAt (roundFrom read ring)) ≤ wholeOf (headerAt (roundFrom read ring))) where
+      pub taken-14 : (typeField (headerAt (roundFrom read ring)) ≡ mctpType → ⊥)
           → takenOf most ring configured readable read write output
-          ≡ skipped 14 (nextOf (length ring) read (wholeOf (headerAt (turn read ring))))
+          ≡ skipped 14 (nextOf (length ring) read (wholeOf (headerAt (roundFrom read ring))))
       taken-14 h =
-          found ∙ judged-14 most (filledOf (length ring) read write) (headerAt (turn read ring))
-          (nextOf (length ring) read (wholeOf (headerAt (turn read ring)))) held counted h
+          found ∙ judged-14 most (filledOf (length ring) read write) (headerAt (roundFrom read ring))
+          (nextOf (length ring) read (wholeOf (headerAt (roundFrom read ring)))) held counted h
 
-      pub taken-3 : typeField (headerAt (turn read ring)) ≡ mctpType
-          → packetSize most (sizeOf (headerAt (turn read ring))) ≡ false
+      pub taken-3 : typeField (headerAt (roundFrom read ring)) ≡ mctpType
+          → sizeRight most (sizeOf (headerAt (roundFrom read ring))) ≡ false
           → takenOf most ring configured readable read write output
-          ≡ skipped 3 (nextOf (length ring) read (wholeOf (headerAt (turn read ring))))
+          ≡ skipped 3 (nextOf (length ring) read (wholeOf (headerAt (roundFrom read ring))))
       taken-3 ours h =
-          found ∙ judged-3 most (filledOf (length ring) read write) (headerAt (turn read ring))
-          (nextOf (length ring) read (wholeOf (headerAt (turn read ring)))) held counted ours h
+          found ∙ judged-3 most (filledOf (length ring) read write) (headerAt (roundFrom read ring))
+          (nextOf (length ring) read (wholeOf (headerAt (roundFrom read ring)))) held counted ours h
 
 -- what a header that passes for a packet says
 pub record Passed (most filled header after size next : ℕ) : Type 0 where
@@ -194,8 +195,8 @@ pub record Good (most : ℕ) (ring : List ℕ) (configured : ℕ) (readable : Bo
   pub from : Pointer configured read
   pub to : Pointer configured write
   pub some : read ≡ write → ⊥
-  pub header : Passed most (filledOf configured read write) (headerAt (turn read ring))
-      (nextOf configured read (wholeOf (headerAt (turn read ring)))) size next
+  pub header : Passed most (filledOf configured read write) (headerAt (roundFrom read ring))
+      (nextOf configured read (wholeOf (headerAt (roundFrom read ring)))) size next
 
 -- no other answer is a packet
 not-refused : (n size next : ℕ) → refused n ≡ packet size next → ⊥
@@ -217,11 +218,11 @@ passed most filled header after size next e =
     (not-refused 13 size next) (b .1) in
     let f = past (not (eqb (typeField header) mctpType)) (skipped 14 after) _ (packet size next)
     (not-skipped 14 after size next) (d .1) in
-    let g = past (not (packetSize most (sizeOf header))) (skipped 3 after) _ (packet size next)
+    let g = past (not (sizeRight most (sizeOf header))) (skipped 3 after) _ (packet size next)
     (not-skipped 3 after size next) (f .1) in
     let same : sizeOf header ≡ size = cc (g .1) in
     let on : after ≡ next = cc (g .1) in
-    let bounds = within-bounds 5 (4 + most) (sizeOf header) (not-false (packetSize most (sizeOf header)) (g .0)) in
+    let bounds = within-bounds 5 (4 + most) (sizeOf header) (not-false (sizeRight most (sizeOf header)) (g .0)) in
     record {
       held = ltb-false filled (wholeOf header) (b .0);
       counted = ltb-false (wholeOf header) (4 + paddingField header) (d .0);
@@ -256,15 +257,15 @@ module _ (most : ℕ) (ring : List ℕ) (configured : ℕ) (readable : Bool) (re
         to = pointers .1;
         some = eqb-false read write (g .0);
         header =
-            rw (set-up .same) (passed most (filledOf (length ring) read write) (headerAt (turn read ring))
-            (nextOf (length ring) read (wholeOf (headerAt (turn read ring)))) size next (g .1));
+            rw (set-up .same) (passed most (filledOf (length ring) read write) (headerAt (roundFrom read ring))
+            (nextOf (length ring) read (wholeOf (headerAt (roundFrom read ring)))) size next (g .1));
       }
 
   -- and a good input is read
   pub good-taken : Good most ring configured readable read write output size next
       → takenOf most ring configured readable read write output ≡ packet size next
   good-taken h =
-      let w = headerAt (turn read ring) in
+      let w = headerAt (roundFrom read ring) in
       let p = h .header in
       taken-found most ring configured readable read write output
       (set-up-holds most configured (length ring) (h .set-up)) (h .room) (h .may)
@@ -290,16 +291,16 @@ module _ (most : ℕ) (ring : List ℕ) (configured : ℕ) (readable : Bool) (re
         )
 
     -- the packet stands four bytes after the read pointer
-    pub good-packet : take size (turn (nextOf configured read 4) ring) ≡ packetOf (turn read ring)
-    unfolding packetOf turn
+    pub good-packet : take size (roundFrom (nextOf configured read 4) ring) ≡ packetOf (roundFrom read ring)
+    unfolding packetOf roundFrom
     good-packet =
         let same = h .set-up .same in
-        let s = turn read ring in
+        let s = roundFrom read ring in
         let under : read < length ring = omega (arith, h .from .below) in
         let four : 4 ≤ length ring = omega (arith, good-short) in
-        let inside : size ≤ length (drop 4 s) = omega (arith, length-drop 4 s, turn-length read ring, good-short) in
-        ap (λ (n : ℕ). take size (turn (nextOf n read 4) ring)) same
-        ∙ ap (take size) (sym (turn-turn ring read 4 under four))
+        let inside : size ≤ length (drop 4 s) = omega (arith, length-drop 4 s, round-length read ring, good-short) in
+        ap (λ (n : ℕ). take size (roundFrom (nextOf n read 4) ring)) same
+        ∙ ap (take size) (sym (round-round ring read 4 under four))
         ∙ take-append-le size (drop 4 s) (take 4 s) inside
         ∙ ap (λ (n : ℕ). take n (drop 4 s)) (h .header .sized)
 
@@ -322,7 +323,7 @@ pub taken-not-1 : (most : ℕ) (ring : List ℕ) (configured : ℕ) (readable : 
     → takenOf most ring configured readable read write output ≡ refused 1 → ⊥
 unfolding takenOf judged
 taken-not-1 most ring configured readable read write output set-up e =
-    let w = headerAt (turn read ring) in
+    let w = headerAt (roundFrom read ring) in
     let f = filledOf (length ring) read write in
     let next = nextOf (length ring) read (wholeOf w) in
     let a = rw set-up at e in
@@ -336,5 +337,5 @@ taken-not-1 most ring configured readable read write output set-up e =
     let k = past (ltb (wholeOf w) (4 + paddingField w)) (refused 13) _ (refused 1)
     (other-number 13 (λ (z : 13 ≡ 1). omega arith)) j .1 in
     let l = past (not (eqb (typeField w) mctpType)) (skipped 14 next) _ (refused 1) (other-skip 14 next) k .1 in
-    let m = past (not (packetSize most (sizeOf w))) (skipped 3 next) _ (refused 1) (other-skip 3 next) l .1 in
+    let m = past (not (sizeRight most (sizeOf w))) (skipped 3 next) _ (refused 1) (other-skip 3 next) l .1 in
     other-packet (sizeOf w) next m

@@ -9,12 +9,13 @@ use native.Mathlib.Omega.{arith}
 use lib.ListN.{length, take, replicate, length-replicate}
 use Rattle.octets.specs.Bytes.{fronted}
 use Rattle.octets.proofs.Choice.{within-holds, within-bounds}
-use Rattle.mctp.specs.Packet.{mostRight, packetSize}
-use Rattle.ring.specs.Numbers.{lengthRight, filledOf, roomOf, nextOf}
+use Rattle.mctp.specs.Packet.{bodyRight, sizeRight}
+use Rattle.mmbi.specs.Pointers.{lengthRight}
+use Rattle.ring.specs.Numbers.{filledOf, roomOf, nextOf}
 use Rattle.ring.specs.Packet.{wholeFor, ringBytes}
 use Rattle.ring.specs.Reading as reading
 use Rattle.ring.specs.Runs.{arrivalRing}
-use Rattle.ring.specs.Turn.{turn, stored}
+use Rattle.ring.specs.Round.{roundFrom, stored}
 use Rattle.ring.specs.Writing as writing
 use Rattle.ring.proofs.Headers.{bytes-length}
 use Rattle.ring.proofs.Held.{Holds, holds-none, holds-written, written-keeps, held-good, held-packet}
@@ -22,7 +23,7 @@ use Rattle.mmbi.proofs.Pointers.{Pointer}
 use Rattle.ring.proofs.Numbers.{Length, length-facts, filled-near, filled-room, next-near}
 use Rattle.ring.proofs.Readings as readings
 use Rattle.ring.proofs.Readings.{SetUp}
-use Rattle.ring.proofs.Turns.{stored-length}
+use Rattle.ring.proofs.Rounds.{stored-length}
 use Rattle.ring.proofs.Writings as writings
 
 -- the packet that a ring holds first is read, answer and output
@@ -35,8 +36,8 @@ read-first most configured ring read write packets p out h room =
     let says = readings.good-taken most ring configured true read write (length out) (length p) next
     (held-good most configured ring read write packets p h (length out) room) in
     let output : reading.outputOf (reading.takenOf most ring configured true read write (length out))
-    (turn read ring) out ≡ fronted out p =
-    ap (λ (s : reading.Said). reading.outputOf s (turn read ring) out) says
+    (roundFrom read ring) out ≡ fronted out p =
+    ap (λ (s : reading.Said). reading.outputOf s (roundFrom read ring) out) says
     ∙ ap (fronted out) (held-packet most configured ring read write packets p h) in
     λ i. reading.left (says i) (output i)
 
@@ -52,7 +53,7 @@ room-none configured pointer l p =
 
 -- a packet alone in the ring
 alone : (most configured : ℕ) (ring : List ℕ) (pointer : ℕ) (p : List ℕ) → SetUp most configured (length ring)
-    → Pointer configured pointer → packetSize most (length p) ≡ true → wholeFor (length p) + 4 ≤ configured
+    → Pointer configured pointer → sizeRight most (length p) ≡ true → wholeFor (length p) + 4 ≤ configured
     → Holds most configured (stored ring pointer (ringBytes p)) pointer
     (nextOf configured pointer (wholeFor (length p))) (p ∷ [])
 alone most configured ring pointer p set-up at sized fits =
@@ -77,12 +78,12 @@ written-length most ring configured running read write p =
 pub written-kept : (most : ℕ) (ring : List ℕ) (configured : ℕ) (running : Bool) (read write : ℕ) (p : List ℕ) (next : ℕ)
     → writing.writeOf most ring configured running read write p .says ≡ writing.written next
     → take (filledOf configured read write)
-    (turn read (writing.writeOf most ring configured running read write p .ring))
-    ≡ take (filledOf configured read write) (turn read ring)
+    (roundFrom read (writing.writeOf most ring configured running read write p .ring))
+    ≡ take (filledOf configured read write) (roundFrom read ring)
 written-kept most ring configured running read write p next e =
     let g = writings.good most (length ring) configured running read write (length p) next e in
     let fits = writings.good-fits most (length ring) configured running read write (length p) next g in
-    ap (λ (s : writing.Said). take (filledOf configured read write) (turn read (writing.ringOf s ring write p))) e
+    ap (λ (s : writing.Said). take (filledOf configured read write) (roundFrom read (writing.ringOf s ring write p))) e
     ∙ written-keeps configured ring read write (g .set-up .same) (g .from) (g .to) (ringBytes p)
     (omega (arith, bytes-length p))
 
@@ -105,8 +106,8 @@ round-trip most ring configured running read write p next out e room =
 
 -- every packet that a carrier takes has a good arrival in any ring that is four bytes longer than what the packet takes
 -- up
-pub arrival : (most configured : ℕ) (p out : List ℕ) → mostRight most ≡ true → lengthRight configured ≡ true
-    → packetSize most (length p) ≡ true → wholeFor (length p) + 4 ≤ configured → 4 + most ≤ length out
+pub arrival : (most configured : ℕ) (p out : List ℕ) → bodyRight most ≡ true → lengthRight configured ≡ true
+    → sizeRight most (length p) ≡ true → wholeFor (length p) + 4 ≤ configured → 4 + most ≤ length out
     → reading.readOf most (arrivalRing configured p) configured true 0 (wholeFor (length p)) out
     ≡ reading.left (reading.packet (length p) (wholeFor (length p))) (fronted out p)
 unfolding arrivalRing
@@ -127,7 +128,7 @@ arrival most configured p out m l sized fits room =
     ∙ ap (λ (n : ℕ). reading.left (reading.packet (length p) n) (fronted out p)) at
 
 -- of the base, "5 to 68 in all", in any ring of a right length: 76 bytes are enough, and the least length is 128
-pub arrival-base : (configured : ℕ) (p out : List ℕ) → lengthRight configured ≡ true → packetSize 64 (length p) ≡ true
+pub arrival-base : (configured : ℕ) (p out : List ℕ) → lengthRight configured ≡ true → sizeRight 64 (length p) ≡ true
     → 68 ≤ length out
     → reading.readOf 64 (arrivalRing configured p) configured true 0 (wholeFor (length p)) out
     ≡ reading.left (reading.packet (length p) (wholeFor (length p))) (fronted out p)

@@ -7,7 +7,7 @@ use native.Mathlib.Omega.{arith}
 use borrow.Author.Tests.{lt-ltb, le-ltb, ltb-false, not-false}
 use lib.Dec.{ltb}
 use Rattle.octets.proofs.Choice.{within-bounds, within-holds}
-use Rattle.mctp.specs.Packet.{packetSize}
+use Rattle.mctp.specs.Packet.{sizeRight}
 use Rattle.ring.specs.Numbers.{setUpRight, pointersRight, filledOf, roomOf, nextOf}
 use Rattle.ring.specs.Packet.{wholeFor}
 use Rattle.ring.specs.Writing.{written, refused, putOf}
@@ -23,11 +23,11 @@ module _ (most lent configured : ℕ) (running : Bool) (read write size : ℕ) w
   put-1 h = rw h
 
   module _ (set-up : setUpRight most configured lent ≡ true) where
-    pub put-3 : packetSize most size ≡ false → putOf most lent configured running read write size ≡ refused 3
+    pub put-3 : sizeRight most size ≡ false → putOf most lent configured running read write size ≡ refused 3
     unfolding putOf
     put-3 h = rw (set-up, h)
 
-    module _ (sized : packetSize most size ≡ true) where
+    module _ (sized : sizeRight most size ≡ true) where
       pub put-11 : running ≡ false → putOf most lent configured running read write size ≡ refused 11
       unfolding putOf
       put-11 h = rw (set-up, sized, h)
@@ -71,13 +71,13 @@ module _ (most lent configured : ℕ) (running : Bool) (read write size next : �
   unfolding putOf
   good e =
       let a = past (not (setUpRight most configured lent)) (refused 1) _ (written next) (not-refused 1 next) e in
-      let b = past (not (packetSize most size)) (refused 3) _ (written next) (not-refused 3 next) (a .1) in
+      let b = past (not (sizeRight most size)) (refused 3) _ (written next) (not-refused 3 next) (a .1) in
       let d = past (not running) (refused 11) _ (written next) (not-refused 11 next) (b .1) in
       let f = past (not (pointersRight configured read write)) (refused 12) _ (written next) (not-refused 12 next)
       (d .1) in
       let g = past (ltb (roomOf configured read write) (wholeFor size)) (refused 2) _ (written next)
       (not-refused 2 next) (f .1) in
-      let bounds = within-bounds 5 (4 + most) size (not-false (packetSize most size) (b .0)) in
+      let bounds = within-bounds 5 (4 + most) size (not-false (sizeRight most size) (b .0)) in
       let pointers = pointers-facts configured read write (not-false (pointersRight configured read write) (f .0)) in
       let on : nextOf configured write (wholeFor size) ≡ next = cc (g .1) in
       record {
@@ -123,7 +123,7 @@ pub put-not-1 : (most lent configured : ℕ) (running : Bool) (read write size :
 unfolding putOf
 put-not-1 most lent configured running read write size set-up e =
     let a = rw set-up at e in
-    let b = past (not (packetSize most size)) (refused 3) _ (refused 1)
+    let b = past (not (sizeRight most size)) (refused 3) _ (refused 1)
     (other-number 3 (λ (z : 3 ≡ 1). omega arith)) a .1 in
     let d = past (not running) (refused 11) _ (refused 1) (other-number 11 (λ (z : 11 ≡ 1). omega arith)) b .1 in
     let f = past (not (pointersRight configured read write)) (refused 12) _ (refused 1)

@@ -1,5 +1,5 @@
 pub mod Numbers
-pub mod Turn
+pub mod Round
 pub mod Packet
 pub mod Reading
 pub mod Writing

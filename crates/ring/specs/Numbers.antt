@@ -4,17 +4,12 @@
 use Prim.Native.Nat.{ℕ, _+_, _-_, _%_}
 use mathlib.Core.Bool.{Bool, _&&_}
 use lib.Dec.{eqb}
-use Rattle.octets.specs.Choice.{within}
-use Rattle.mctp.specs.Packet.{mostRight}
-use Rattle.mmbi.specs.Pointers.{pointerRight}
-
--- "each ring length is a multiple of 4 from 128 to 65,536 (house rule)"
-abbrev pub lengthRight : ℕ → Bool
-lengthRight length = within 128 65536 length && eqb (length % 4) 0
+use Rattle.mctp.specs.Packet.{bodyRight}
+use Rattle.mmbi.specs.Pointers.{lengthRight, pointerRight}
 
 -- what 1 asks: "length outside the rule, or not that of the lent ring"; a largest body outside its own rule is 1 too
 abbrev pub setUpRight : ℕ → ℕ → ℕ → Bool
-setUpRight most length lent = mostRight most && lengthRight length && eqb length lent
+setUpRight most length lent = bodyRight most && lengthRight length && eqb length lent
 
 -- what 12 asks: "either pointer not a multiple of 4, or not below the length"
 abbrev pub pointersRight : ℕ → ℕ → ℕ → Bool

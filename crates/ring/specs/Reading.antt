@@ -7,12 +7,12 @@ use lib.ListN.{length}
 use lib.Dec.{ltb, eqb}
 use Rattle.octets.specs.Choice.{pick}
 use Rattle.octets.specs.Bytes.{fronted}
-use Rattle.mctp.specs.Packet.{packetSize}
+use Rattle.mctp.specs.Packet.{sizeRight}
 use Rattle.mctp.specs.Refusals.{numberOf}
-use Rattle.ring.specs.declared.reading.Taken.{Taken}
-use Rattle.ring.specs.declared.reading.Taken.the-variants.{Packet, Empty, Skipped, Refused}
+use Rattle.ring.specs.declared.answer.Carried.{Carried}
+use Rattle.ring.specs.declared.answer.Carried.the-variants.{Packet, Empty, Skipped, Refused}
 use Rattle.ring.specs.Numbers.{setUpRight, pointersRight, filledOf, nextOf}
-use Rattle.ring.specs.Turn.{turn}
+use Rattle.ring.specs.Round.{roundFrom}
 use Rattle.ring.specs.Packet.{headerAt, paddingField, typeField, mctpType, wholeOf, sizeOf, packetOf}
 
 -- what reading gives, in document 01's numbers
@@ -27,7 +27,7 @@ pub data Said : Type 0 where
   refused : ℕ → Said
 
 -- each case of the answer, with its number and its values
-abbrev pub saidOf : Taken → Said
+abbrev pub saidOf : Carried → Said
 saidOf (Packet size next) = packet size next
 saidOf Empty = empty
 saidOf (Skipped refusal next) = skipped (numberOf refusal) next
@@ -41,14 +41,14 @@ judged most filled header next =
     (pick (ltb filled (wholeOf header)) (refused 13)
     (pick (ltb (wholeOf header) (4 + paddingField header)) (refused 13)
     (pick (not (eqb (typeField header) mctpType)) (skipped 14 next)
-    (pick (not (packetSize most (sizeOf header))) (skipped 3 next)
+    (pick (not (sizeRight most (sizeOf header))) (skipped 3 next)
     (packet (sizeOf header) next)))))
 
 -- the packet that stands at the read pointer
 abbrev pub foundOf : ℕ → List ℕ → ℕ → ℕ → Said
 foundOf most ring read write =
-    judged most (filledOf (length ring) read write) (headerAt (turn read ring))
-    (nextOf (length ring) read (wholeOf (headerAt (turn read ring))))
+    judged most (filledOf (length ring) read write) (headerAt (roundFrom read ring))
+    (nextOf (length ring) read (wholeOf (headerAt (roundFrom read ring))))
 
 -- "Reading order: 1 (length outside the rule, or not that of the lent ring), 2 (output under 68), 11, 12 (either
 -- pointer not a multiple of 4, or not below the length), EMPTY, 13, 14, 3"; 68 is 4 + `most`, and 11 is for a state in
@@ -81,4 +81,4 @@ left said out = record { says = said; output = out }
 abbrev pub readOf : ℕ → List ℕ → ℕ → Bool → ℕ → ℕ → List ℕ → Left
 readOf most ring configured readable read write out =
     left (takenOf most ring configured readable read write (length out))
-    (outputOf (takenOf most ring configured readable read write (length out)) (turn read ring) out)
+    (outputOf (takenOf most ring configured readable read write (length out)) (roundFrom read ring) out)

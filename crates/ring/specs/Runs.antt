@@ -4,12 +4,12 @@ use Prim.Native.Nat.{ℕ, _+_}
 use mathlib.Core.Bool.{Bool, true, _&&_}
 use mathlib.Core.List.{List, [], _∷_, _++_}
 use lib.ListN.{length, take, replicate}
-use Rattle.mctp.specs.Packet.{packetSize}
+use Rattle.mctp.specs.Packet.{sizeRight}
 use Rattle.mmbi.specs.declared.interface.Flags.{Flags}
 use Rattle.mmbi.specs.Interface.{normalRuntime, stateOf, mayRead, mayWrite}
 use Rattle.ring.specs.Packet.{wholeFor, ringBytes}
 use Rattle.ring.specs.Reading as reading
-use Rattle.ring.specs.Turn.{stored}
+use Rattle.ring.specs.Round.{stored}
 use Rattle.ring.specs.Writing as writing
 
 -- a ring of so many zero bytes, with one packet at its front
@@ -19,7 +19,7 @@ arrivalRing configured p = stored (replicate configured 0) 0 (ringBytes p)
 -- every packet has a size that a carrier takes
 unfoldable pub allSized : ℕ → List (List ℕ) → Bool
 allSized most [] = true
-allSized most (p ∷ packets) = packetSize most (length p) && allSized most packets
+allSized most (p ∷ packets) = sizeRight most (length p) && allSized most packets
 
 -- all that the packets take up in the ring
 unfoldable pub spaceFor : List (List ℕ) → ℕ

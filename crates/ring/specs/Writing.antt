@@ -6,12 +6,12 @@ use mathlib.Core.List.{List}
 use lib.ListN.{length}
 use lib.Dec.{ltb}
 use Rattle.octets.specs.Choice.{pick}
-use Rattle.mctp.specs.Packet.{packetSize}
+use Rattle.mctp.specs.Packet.{sizeRight}
 use Rattle.mctp.specs.Refusals.{numberOf}
-use Rattle.ring.specs.declared.writing.Put.{Put}
-use Rattle.ring.specs.declared.writing.Put.the-variants.{Stored, Refused}
+use Rattle.ring.specs.declared.answer.Written.{Written}
+use Rattle.ring.specs.declared.answer.Written.the-variants.{Stored, Refused}
 use Rattle.ring.specs.Numbers.{setUpRight, pointersRight, roomOf, nextOf}
-use Rattle.ring.specs.Turn.{stored}
+use Rattle.ring.specs.Round.{stored}
 use Rattle.ring.specs.Packet.{wholeFor, ringBytes}
 
 -- what writing gives, in document 01's numbers
@@ -22,7 +22,7 @@ pub data Said : Type 0 where
   refused : ℕ → Said
 
 -- each case of the answer, with its number and its values
-abbrev pub saidOf : Put → Said
+abbrev pub saidOf : Written → Said
 saidOf (Stored next) = written next
 saidOf (Refused refusal) = refused (numberOf refusal)
 
@@ -31,7 +31,7 @@ saidOf (Refused refusal) = refused (numberOf refusal)
 unfoldable pub putOf : ℕ → ℕ → ℕ → Bool → ℕ → ℕ → ℕ → Said
 putOf most lent configured running read write size =
     pick (not (setUpRight most configured lent)) (refused 1)
-    (pick (not (packetSize most size)) (refused 3)
+    (pick (not (sizeRight most size)) (refused 3)
     (pick (not running) (refused 11)
     (pick (not (pointersRight configured read write)) (refused 12)
     (pick (ltb (roomOf configured read write) (wholeFor size)) (refused 2)

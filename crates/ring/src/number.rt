@@ -1,17 +1,13 @@
 // The ring's numbers: what is filled, what is left, and the pointer after so many bytes.
 ghost use mathlib.Core.Path.{_≡_};
 ghost use Prim.Native.Nat.{_+_, _≤_, _<_};
-ghost use Rattle.mctp.specs.Packet.{packetSize};
 ghost use Rattle.ring.specs.Numbers.{setUpRight, pointersRight, filledOf, roomOf, nextOf};
 
 // What 1 asks of the largest body, the configured length and that of the lent ring.
 pub fn set_up_right(most: usize, length: usize, lent: usize) -> bool
     ensures { λ r. ⌜ r ≡ setUpRight most length lent ⌝ }
 {
-    (64 <= most)
-        & (most <= 246)
-        & ((128 <= length) & (length <= 65536) & (length % 4 == 0))
-        & (length == lent)
+    mctp::body_right(most) & mmbi::length_right(length) & (length == lent)
 }
 
 // What 12 asks of the pointers.
@@ -19,14 +15,6 @@ pub fn pointers_right(length: usize, read: usize, write: usize) -> bool
     ensures { λ r. ⌜ r ≡ pointersRight length read write ⌝ }
 {
     mmbi::pointer_right(length, read) & mmbi::pointer_right(length, write)
-}
-
-// "5 to 68 in all", where 68 is 4 + `most`.
-pub fn size_right(most: usize, size: usize) -> bool
-    requires { ⌜ most ≤ 246 ⌝ }
-    ensures { λ r. ⌜ r ≡ packetSize most size ⌝ }
-{
-    (5 <= size) & (size <= 4 + most)
 }
 
 // "Filled is (write − read) modulo the ring length": where the write pointer stands before the read pointer, one length

@@ -1,8 +1,10 @@
 // A packet taken out of the ring.
+use crate::answer::Carried;
 use crate::number;
 use crate::round;
 use mctp::Refusal;
 use mmbi::Flags;
+use mmbi::Pointers;
 ghost use mathlib.Core.Path.{_≡_};
 ghost use Prim.Native.Nat.{_≤_, _<_};
 ghost use lib.ListN.{length};
@@ -11,16 +13,6 @@ ghost use Rattle.mmbi.specs.Interface.{stateOf, mayRead};
 ghost use Rattle.ring.specs.Numbers.{nextOf};
 ghost use Rattle.ring.specs.Packet.{wholeOf};
 ghost use Rattle.ring.specs.Reading.{saidOf, judged, takenOf, readOf, left};
-
-pub enum Taken {
-    // A packet: its size and the new read pointer.
-    Packet(usize, usize),
-    // No packet is there.
-    Empty,
-    // A packet that is not for us, 14 or 3, with the pointer after it.
-    Skipped(Refusal, usize),
-    Refused(Refusal),
-}
 
 // The header at a pointer. Pointers are multiples of 4, as the length is, so its four bytes don't run over the ring's
 // end.
@@ -31,29 +23,29 @@ fn header_at(ring: &[u8], at: usize) -> u32
 }
 
 // What the header of a packet at the read pointer says, where so much is filled.
-fn judge(most: usize, length: usize, read: usize, filled: usize, header: u32) -> Taken
+fn judge(most: usize, length: usize, read: usize, filled: usize, header: u32) -> Carried
     requires { ⌜ (most ≤ 246) × (length ≤ 65536) × (read < length) × (filled ≤ length) ⌝ }
     ensures { λ r. ⌜ saidOf r ≡ judged most filled header (nextOf length read (wholeOf header)) ⌝ }
 {
     let whole = ((header / 1024 + 1) * 4) as usize;
     let padding = (header / 256 % 4) as usize;
     if filled < whole {
-        return Taken::Refused(Refusal::BadPacket);
+        return Carried::Refused(Refusal::BadPacket);
     }
     let counted = 4 + padding;
     if whole < counted {
-        return Taken::Refused(Refusal::BadPacket);
+        return Carried::Refused(Refusal::BadPacket);
     }
     let after = number::next(length, read, whole);
     let kind = header % 16;
     if kind != 4 {
-        return Taken::Skipped(Refusal::OtherKind, after);
+        return Carried::Skipped(Refusal::OtherKind, after);
     }
     let size = whole - 4 - padding;
-    if !number::size_right(most, size) {
-        return Taken::Skipped(Refusal::Size, after);
+    if !mctp::size_right(most, size) {
+        return Carried::Skipped(Refusal::Size, after);
     }
-    Taken::Packet(size, after)
+    Carried::Packet(size, after)
 }
 
 // What reading finds; nothing is copied yet.
@@ -65,24 +57,24 @@ fn find(
     read: usize,
     write: usize,
     output: usize,
-) -> Taken
+) -> Carried
     ensures { λ r. ⌜ saidOf r ≡ takenOf most (now (ring .entry)) configured readable read write output ⌝ }
 {
     if !number::set_up_right(most, configured, ring.len()) {
-        return Taken::Refused(Refusal::Setup);
+        return Carried::Refused(Refusal::Setup);
     }
     let least = 4 + most;
     if output < least {
-        return Taken::Refused(Refusal::Room);
+        return Carried::Refused(Refusal::Room);
     }
     if !readable {
-        return Taken::Refused(Refusal::NotRunning);
+        return Carried::Refused(Refusal::NotRunning);
     }
     if !number::pointers_right(configured, read, write) {
-        return Taken::Refused(Refusal::Pointer);
+        return Carried::Refused(Refusal::Pointer);
     }
     if read == write {
-        return Taken::Empty;
+        return Carried::Empty;
     }
     let filled = number::filled(configured, read, write);
     let header = header_at(ring, read);
@@ -90,7 +82,7 @@ fn find(
 }
 
 // Reading with a largest body of the caller's.
-pub fn read_up_to(
+pub fn read_within(
     most: usize,
     ring: &[u8],
     configured: usize,
@@ -98,20 +90,20 @@ pub fn read_up_to(
     read: usize,
     write: usize,
     out: &mut [u8],
-) -> Taken
+) -> Carried
     ensures { λ r. ⌜ left (saidOf r) (now (out .exit))
         ≡ readOf most (now (ring .entry)) configured readable read write (now (out .entry)) ⌝ }
 {
     let taken = find(most, ring, configured, readable, read, write, out.len());
     match taken {
-        Taken::Packet(size, after) => {
+        Carried::Packet(size, after) => {
             let at = number::next(configured, read, 4);
             round::copy_out(ring, at, size, out);
-            Taken::Packet(size, after)
+            Carried::Packet(size, after)
         }
-        Taken::Empty => Taken::Empty,
-        Taken::Skipped(refusal, after) => Taken::Skipped(refusal, after),
-        Taken::Refused(refusal) => Taken::Refused(refusal),
+        Carried::Empty => Carried::Empty,
+        Carried::Skipped(refusal, after) => Carried::Skipped(refusal, after),
+        Carried::Refused(refusal) => Carried::Refused(refusal),
     }
 }
 
@@ -121,21 +113,21 @@ pub fn read(
     ring: &[u8],
     configured: usize,
     flags: Flags,
-    read: usize,
-    write: usize,
+    pointers: Pointers,
     out: &mut [u8],
-) -> Taken
+) -> Carried
     ensures { λ r. ⌜ left (saidOf r) (now (out .exit))
-        ≡ readOf 64 (now (ring .entry)) configured (mayRead (stateOf flags)) read write (now (out .entry)) ⌝ }
+        ≡ readOf 64 (now (ring .entry)) configured (mayRead (stateOf flags)) (pointers .read) (pointers .write)
+        (now (out .entry)) ⌝ }
 {
     let readable = mmbi::may_read(mmbi::state(flags));
-    read_up_to(
+    read_within(
         mctp::LARGEST_BODY,
         ring,
         configured,
         readable,
-        read,
-        write,
+        pointers.read,
+        pointers.write,
         out,
     )
 }

@@ -3,12 +3,12 @@ ghost use mathlib.Core.Path.{_≡_};
 ghost use Prim.Native.Nat.{_≤_, _<_};
 ghost use lib.ListN.{length, take};
 ghost use Rattle.octets.specs.Bytes.{fronted};
-ghost use Rattle.ring.specs.Turn.{turn, stored};
+ghost use Rattle.ring.specs.Round.{roundFrom, stored};
 
 // `n` bytes from place `at` on, to the output's front.
 pub fn copy_out(ring: &[u8], at: usize, n: usize, out: &mut [u8])
     requires { ⌜ (at < length (now ring)) × (n ≤ length (now ring)) × (n ≤ length (now out)) ⌝ }
-    ensures { λ _. ⌜ now (out .exit) ≡ fronted (now (out .entry)) (take n (turn at (now (ring .entry)))) ⌝ }
+    ensures { λ _. ⌜ now (out .exit) ≡ fronted (now (out .entry)) (take n (roundFrom at (now (ring .entry)))) ⌝ }
 {
     let straight = ring.len() - at;
     if n <= straight {

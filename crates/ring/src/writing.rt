@@ -1,8 +1,10 @@
 // A packet put into the ring.
+use crate::answer::Written;
 use crate::number;
 use crate::round;
 use mctp::Refusal;
 use mmbi::Flags;
+use mmbi::Pointers;
 ghost use mathlib.Core.Path.{_≡_};
 ghost use Prim.Native.Nat.{_+_, _≤_, _<_};
 ghost use lib.ListN.{length};
@@ -10,14 +12,8 @@ ghost use Rattle.octets.specs.Bytes.{laid};
 ghost use Rattle.octets.specs.Words.{highFirst, wordBytes};
 ghost use Rattle.mmbi.specs.Interface.{stateOf, mayWrite};
 ghost use Rattle.ring.specs.Packet.{paddingFor, wholeFor, headerFor, ringBytes};
-ghost use Rattle.ring.specs.Turn.{stored};
+ghost use Rattle.ring.specs.Round.{stored};
 ghost use Rattle.ring.specs.Writing.{saidOf, putOf, writeOf, left};
-
-pub enum Put {
-    // The new write pointer.
-    Stored(usize),
-    Refused(Refusal),
-}
 
 // "padding to a multiple of 4", for a packet of `size` bytes.
 fn padding_for(size: usize) -> usize
@@ -45,27 +41,27 @@ fn judge(
     read: usize,
     write: usize,
     size: usize,
-) -> Put
+) -> Written
     ensures { λ r. ⌜ saidOf r ≡ putOf most lent configured running read write size ⌝ }
 {
     if !number::set_up_right(most, configured, lent) {
-        return Put::Refused(Refusal::Setup);
+        return Written::Refused(Refusal::Setup);
     }
-    if !number::size_right(most, size) {
-        return Put::Refused(Refusal::Size);
+    if !mctp::size_right(most, size) {
+        return Written::Refused(Refusal::Size);
     }
     if !running {
-        return Put::Refused(Refusal::NotRunning);
+        return Written::Refused(Refusal::NotRunning);
     }
     if !number::pointers_right(configured, read, write) {
-        return Put::Refused(Refusal::Pointer);
+        return Written::Refused(Refusal::Pointer);
     }
     let whole = 4 + size + padding_for(size);
     let room = number::room(configured, read, write);
     if room < whole {
-        return Put::Refused(Refusal::Room);
+        return Written::Refused(Refusal::Room);
     }
-    Put::Stored(number::next(configured, write, whole))
+    Written::Stored(number::next(configured, write, whole))
 }
 
 // A header stored at a pointer, where its four bytes don't run over the ring's end.
@@ -95,7 +91,7 @@ fn fill(ring: &mut [u8], write: usize, packet: &[u8])
 }
 
 // Writing with a largest body of the caller's.
-pub fn write_up_to(
+pub fn write_within(
     most: usize,
     ring: &mut [u8],
     configured: usize,
@@ -103,7 +99,7 @@ pub fn write_up_to(
     read: usize,
     write: usize,
     packet: &[u8],
-) -> Put
+) -> Written
     ensures { λ r. ⌜ left (saidOf r) (now (ring .exit))
         ≡ writeOf most (now (ring .entry)) configured running read write (now (packet .entry)) ⌝ }
 {
@@ -117,11 +113,11 @@ pub fn write_up_to(
         packet.len(),
     );
     match put {
-        Put::Stored(next) => {
+        Written::Stored(next) => {
             fill(ring, write, packet);
-            Put::Stored(next)
+            Written::Stored(next)
         }
-        Put::Refused(refusal) => Put::Refused(refusal),
+        Written::Refused(refusal) => Written::Refused(refusal),
     }
 }
 
@@ -130,21 +126,21 @@ pub fn write(
     ring: &mut [u8],
     configured: usize,
     flags: Flags,
-    read: usize,
-    write: usize,
+    pointers: Pointers,
     packet: &[u8],
-) -> Put
+) -> Written
     ensures { λ r. ⌜ left (saidOf r) (now (ring .exit))
-        ≡ writeOf 64 (now (ring .entry)) configured (mayWrite (stateOf flags)) read write (now (packet .entry)) ⌝ }
+        ≡ writeOf 64 (now (ring .entry)) configured (mayWrite (stateOf flags)) (pointers .read) (pointers .write)
+        (now (packet .entry)) ⌝ }
 {
     let running = mmbi::may_write(mmbi::state(flags));
-    write_up_to(
+    write_within(
         mctp::LARGEST_BODY,
         ring,
         configured,
         running,
-        read,
-        write,
+        pointers.read,
+        pointers.write,
         packet,
     )
 }

@@ -8,10 +8,11 @@ use contract.Lifetimes.{Lfts}
 use Rattle.octets.proofs.Choice.{determined}
 use Rattle.mctp.proofs.Refusals.{number-injective, number-positive}
 use Rattle.slots.specs.declared.state.SlotState.the-variants.{Free}
-use Rattle.slots.specs.declared.change.Outcome.{Outcome}
-use Rattle.slots.specs.declared.change.Outcome.the-variants.{Good, Refused}
+use Rattle.mctp.specs.declared.refusal.Outcome.{Outcome}
+use Rattle.mctp.specs.declared.refusal.Outcome.the-variants.{Good, Refused}
 use Rattle.slots.specs.declared.change.Changed.{Changed}
-use Rattle.slots.specs.Changes.{Kept, outcomeNumber, keeps, withState}
+use Rattle.mctp.specs.Refusals.{outcomeNumber}
+use Rattle.slots.specs.Changes.{Kept, keeps, withState}
 use Rattle.slots.proofs.Kept.{freed-good, freed-wrong}
 use Rattle.slots.proofs.change.set_up.Reads as set-up
 use Rattle.slots.proofs.change.free.Reads as free

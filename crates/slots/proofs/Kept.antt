@@ -7,7 +7,7 @@ use borrow.Author.Tests.{ltb-true, lt-ltb, le-ltb}
 use lib.Dec.{ltb}
 use Rattle.octets.specs.Choice.{pick}
 use Rattle.octets.proofs.Choice.{both}
-use Rattle.mctp.specs.Packet.{mostRight}
+use Rattle.mctp.specs.Packet.{bodyRight}
 use Rattle.slots.specs.declared.state.Setup.{Setup}
 use Rattle.slots.specs.declared.state.SlotState.the-variants.{Free}
 use Rattle.slots.specs.declared.state.Receiver.{Receiver}
@@ -17,13 +17,13 @@ use Rattle.slots.specs.Changes.{Kept, fresh, withState, setUpOf, freedOf
 use Rattle.slots.proofs.States.{right-of, right-holds, with-right}
 
 -- a fresh receiver's state is right
-pub fresh-right : (most : ℕ) (s : Setup) → mostRight most ≡ true → rightSetup s ≡ true
+pub fresh-right : (most : ℕ) (s : Setup) → bodyRight most ≡ true → rightSetup s ≡ true
     → rightState most (fresh s) ≡ true
 unfolding rightState rightSlot clash
 fresh-right most s m e = rw (m, e)
 
 -- set-up gives a right state, also beside a refusal
-pub set-up-right : (most : ℕ) (s : Setup) → mostRight most ≡ true → rightState most (setUpOf s .receiver) ≡ true
+pub set-up-right : (most : ℕ) (s : Setup) → bodyRight most ≡ true → rightState most (setUpOf s .receiver) ≡ true
 unfolding setUpOf
 set-up-right most s m = by-test (rightSetup s) refl
   where

@@ -14,7 +14,7 @@ use borrow.Author.Tests.{eqb-true, eq-eqb, not-true}
 use Rattle.octets.proofs.Choice.{both, within-bounds}
 use Rattle.mctp.specs.declared.packet.Key.{Key}
 use Rattle.mctp.specs.Key.{sameKey}
-use Rattle.mctp.specs.Packet.{mostRight}
+use Rattle.mctp.specs.Packet.{bodyRight}
 use Rattle.mctp.proofs.Keys.{same-key-refl, same-key-true}
 use Rattle.slots.specs.declared.state.Slot.{Slot}
 use Rattle.slots.specs.declared.state.SlotState.{SlotState}
@@ -27,7 +27,7 @@ use Rattle.slots.specs.Changes.{withState}
 
 -- document 01's list: the set-up, four slots, each slot, each pair
 pub record Right (most : ℕ) (r : Receiver) : Type 0 where
-  pub most-right : mostRight most ≡ true
+  pub most-right : bodyRight most ≡ true
   pub setup : rightSetup (r .setup) ≡ true
   pub four : length (r .slots) ≡ 4
   pub each : (i : ℕ) → i < 4 → rightSlot most (r .setup) (slotAt (r .slots) i) ≡ true

@@ -6,14 +6,12 @@ use mathlib.Core.List.{[], _∷_}
 use lib.Dec.{ltb}
 use lib.ListN.{set}
 use Rattle.octets.specs.Choice.{pick}
-use Rattle.mctp.specs.Refusals.{numberOf}
+use Rattle.mctp.specs.Refusals.{outcomeNumber}
 use Rattle.slots.specs.declared.state.Setup.{Setup}
 use Rattle.slots.specs.declared.state.Slot.{Slot}
 use Rattle.slots.specs.declared.state.SlotState.{SlotState}
 use Rattle.slots.specs.declared.state.SlotState.the-variants.{Free}
 use Rattle.slots.specs.declared.state.Receiver.{Receiver}
-use Rattle.slots.specs.declared.change.Outcome.{Outcome}
-use Rattle.slots.specs.declared.change.Outcome.the-variants.{Good, Refused}
 use Rattle.slots.specs.declared.change.Changed.{Changed}
 use Rattle.slots.specs.Setup.{rightSetup}
 use Rattle.slots.specs.State.{rightState}
@@ -22,11 +20,6 @@ use Rattle.slots.specs.State.{rightState}
 pub record Kept : Type 0 where
   pub number : ℕ
   pub receiver : Receiver
-
--- an outcome's number: 0 where good
-abbrev pub outcomeNumber : Outcome → ℕ
-outcomeNumber Good = 0
-outcomeNumber (Refused refusal) = numberOf refusal
 
 abbrev pub keeps : Changed → Kept
 keeps c = record { number = outcomeNumber (c .outcome); receiver = c .receiver }

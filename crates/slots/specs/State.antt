@@ -4,7 +4,7 @@ use Prim.Native.Nat.{ℕ, _%_}
 use mathlib.Core.Bool.{Bool, true, false, not, _&&_}
 use lib.Dec.{leb, eqb}
 use lib.ListN.{length}
-use Rattle.mctp.specs.Packet.{mostRight}
+use Rattle.mctp.specs.Packet.{bodyRight}
 use Rattle.slots.specs.declared.state.Setup.{Setup}
 use Rattle.slots.specs.declared.state.SlotState.{SlotState}
 use Rattle.slots.specs.declared.state.SlotState.the-variants.{Free, Gathering}
@@ -44,7 +44,7 @@ fourApart a b c d =
 -- "The receiver has an own EID (0 or 8 to 254), four slots": the whole list
 unfoldable pub rightState : ℕ → Receiver → Bool
 rightState most r =
-    mostRight most
+    bodyRight most
     && rightSetup (r .setup)
     && fourRight most (r .setup) (slotAt (r .slots) 0) (slotAt (r .slots) 1) (slotAt (r .slots) 2) (slotAt (r .slots) 3)
     && fourApart (slotAt (r .slots) 0) (slotAt (r .slots) 1) (slotAt (r .slots) 2) (slotAt (r .slots) 3)

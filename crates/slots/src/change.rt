@@ -5,14 +5,10 @@ use crate::state::Setup;
 use crate::state::Slot;
 use crate::state::SlotState;
 use mctp::Eid;
+use mctp::Outcome;
 use mctp::Refusal;
 ghost use mathlib.Core.Path.{_≡_};
 ghost use Rattle.slots.specs.Changes.{fresh, withState, keeps, setUpOf, freedOf};
-
-pub enum Outcome {
-    Good,
-    Refused(Refusal),
-}
 
 pub struct Changed {
     pub outcome: Outcome,

@@ -5,7 +5,6 @@ mod find;
 mod state;
 
 pub use change::Changed;
-pub use change::Outcome;
 pub use change::free;
 pub use change::set_up;
 pub use change::with_state;

@@ -14,7 +14,7 @@ use Rattle.smbus.specs.Answers.{Read, Put, saysCarried, saysWritten}
 use Rattle.smbus.proofs.reading.packet.Reads as packet
 use Rattle.smbus.proofs.reading.refusal.Reads as refusal
 use Rattle.smbus.proofs.reading.source.Reads as source
-use Rattle.smbus.proofs.reading.carried.Reads as carrying
+use Rattle.smbus.proofs.reading.read.Reads as carrying
 use Rattle.smbus.proofs.reading.part.Reads as part
 use Rattle.smbus.proofs.writing.write.Reads as writing
 
@@ -50,8 +50,8 @@ refusal-determined κs a r q e f p o = determined p o
 pub source-determined : (κs : Lfts 1) (a r q e f : _) → source.Post κs a r e → source.Post κs a q f → r ≡ q
 source-determined κs a r q e f p o = determined p o
 
-pub carried-determined : (κs : Lfts 1) (a r q e f : _) → carrying.Post κs a r e → carrying.Post κs a q f → r ≡ q
-carried-determined κs a r q e f p o = carried-injective r q (determined p o)
+pub read-determined : (κs : Lfts 1) (a r q e f : _) → carrying.Post κs a r e → carrying.Post κs a q f → r ≡ q
+read-determined κs a r q e f p o = carried-injective r q (determined p o)
 
 -- The answer and the output.
 pub write-determined : (κs : Lfts 2) (a r q e f : _) → writing.Post κs a r e → writing.Post κs a q f

@@ -12,7 +12,7 @@ use lib.ListN.{length}
 use Rattle.octets.specs.Bytes.{fronted}
 use Rattle.octets.specs.Choice.{pick}
 use Rattle.octets.proofs.Choice.{passed, within-bounds, within-holds}
-use Rattle.mctp.specs.Packet.{mostRight, packetSize}
+use Rattle.mctp.specs.Packet.{bodyRight, sizeRight}
 use Rattle.mctp.specs.declared.refusal.Refusal.{Refusal}
 use Rattle.mctp.specs.Refusals.{numberOf}
 use Rattle.mctp.proofs.Refusals.{number-positive}
@@ -25,7 +25,7 @@ use Rattle.smbus.specs.Answers.{Put, saysWritten, writtenOf}
 
 module _ (most room size destination source : ℕ) where
   -- 1: the largest body is none
-  pub unwritten-most : mostRight most ≡ false → writeRefusal most room size destination source ≡ 1
+  pub unwritten-most : bodyRight most ≡ false → writeRefusal most room size destination source ≡ 1
   unfolding writeRefusal
   unwritten-most h = rw h
 
@@ -42,12 +42,12 @@ module _ (most room size destination source : ℕ) where
 
       module _ (by : source ≤ 127) where
         addressed : writeRefusal most room size destination source
-            ≡ pick (not (packetSize most size)) 3 (pick (ltb room (frameSize size)) 2 0)
+            ≡ pick (not (sizeRight most size)) 3 (pick (ltb room (frameSize size)) 2 0)
         unfolding writeRefusal
         addressed = rw (within-holds 64 246 most least largest, le-ltb 127 destination to, le-ltb 127 source by)
 
         -- 3: "packet size"
-        pub unwritten-size : packetSize most size ≡ false → writeRefusal most room size destination source ≡ 3
+        pub unwritten-size : sizeRight most size ≡ false → writeRefusal most room size destination source ≡ 3
         unwritten-size h = rw (addressed, h)
 
         pub unwritten-short : size < 5 → writeRefusal most room size destination source ≡ 3
@@ -73,10 +73,10 @@ module _ (most room size destination source : ℕ) where
   pub fits : writeRefusal most room size destination source ≡ 0 → Fits most room size destination source
   unfolding writeRefusal
   fits e =
-      let most′ = passed (not (mostRight most)) 0 _ e in
+      let most′ = passed (not (bodyRight most)) 0 _ e in
       let to′ = passed (ltb 127 destination) 0 _ (most′ .1) in
       let by′ = passed (ltb 127 source) 0 _ (to′ .1) in
-      let size′ = passed (not (packetSize most size)) 2 _ (by′ .1) in
+      let size′ = passed (not (sizeRight most size)) 2 _ (by′ .1) in
       let room′ = passed (ltb room (frameSize size)) 1 _ (size′ .1) in
       let body = within-bounds 64 246 most (not-false _ (most′ .0)) in
       let whole = within-bounds 5 (4 + most) size (not-false _ (size′ .0)) in

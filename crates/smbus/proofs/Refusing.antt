@@ -9,14 +9,14 @@ use lib.Dec.{eqb, ltb}
 use lib.ListN.{length, getD}
 use Rattle.octets.specs.Choice.{pick, within}
 use Rattle.octets.proofs.Choice.{passed, within-bounds, within-holds}
-use Rattle.mctp.specs.Packet.{mostRight}
+use Rattle.mctp.specs.Packet.{bodyRight}
 use Rattle.pec.specs.Remainder.{pecOf}
 use Rattle.octets.proofs.Choice.{within-below, within-above}
 use Rattle.smbus.specs.Reading.{endOf, beforeEnd, refusalOf, Sized, Good}
 
 module _ (most : ℕ) (frame : List ℕ) (own : ℕ) where
   -- 1: the largest body is none
-  pub refused-most : mostRight most ≡ false → refusalOf most frame own ≡ 1
+  pub refused-most : bodyRight most ≡ false → refusalOf most frame own ≡ 1
   unfolding refusalOf
   refused-most h = rw h
 
@@ -134,7 +134,7 @@ of-good most frame own g =
 pub good : (most : ℕ) (frame : List ℕ) (own : ℕ) → refusalOf most frame own ≡ 0 → Good most frame own
 unfolding refusalOf
 good most frame own e =
-    let most′ = passed (not (mostRight most)) 0 _ e in
+    let most′ = passed (not (bodyRight most)) 0 _ e in
     let own′ = passed (ltb 127 own) 0 _ (most′ .1) in
     let size′ = passed (not (within 10 (9 + most) (length frame))) 2 _ (own′ .1) in
     let bit′ = passed (not (eqb (getD frame 0 0 % 2) 0)) 3 _ (size′ .1) in

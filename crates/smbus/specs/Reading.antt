@@ -8,7 +8,7 @@ use Prim.Native.Nat.{ℕ, _+_, _-_, _/_, _%_, _≤_}
 use lib.Dec.{eqb, ltb}
 use lib.ListN.{length, getD, take, drop}
 use Rattle.octets.specs.Choice.{pick, within}
-use Rattle.mctp.specs.Packet.{mostRight}
+use Rattle.mctp.specs.Packet.{bodyRight}
 use Rattle.pec.specs.Remainder.{pecOf}
 
 -- "the PEC", which a frame ends with, and "all bytes before it"
@@ -22,7 +22,7 @@ beforeEnd frame = take (length frame - 1) frame
 -- 1), 6 (count + 4 not the frame's length), 7 (bit 0 of byte 3 clear), 8." A largest body that is none is 1.
 unfoldable pub refusalOf : ℕ → List ℕ → ℕ → ℕ
 refusalOf most frame own =
-    pick (not (mostRight most)) 1
+    pick (not (bodyRight most)) 1
     (pick (ltb 127 own) 1
     (pick (not (within 10 (9 + most) (length frame))) 3
     (pick (not (eqb (getD frame 0 0 % 2) 0)) 4

@@ -7,7 +7,7 @@ use lib.Dec.{eqb, ltb}
 use lib.ListN.{length}
 use Rattle.octets.specs.Bytes.{fronted}
 use Rattle.octets.specs.Choice.{pick}
-use Rattle.mctp.specs.Packet.{mostRight, packetSize}
+use Rattle.mctp.specs.Packet.{bodyRight, sizeRight}
 use Rattle.smbus.specs.Frame.{frameOf}
 
 -- the head of four bytes, the packet and the PEC: "A frame .. is 4 longer than its count."
@@ -19,10 +19,10 @@ frameSize size = 5 + size
 -- asked for, `room` all of the output.
 unfoldable pub writeRefusal : ℕ → ℕ → ℕ → ℕ → ℕ → ℕ
 writeRefusal most room size destination source =
-    pick (not (mostRight most)) 1
+    pick (not (bodyRight most)) 1
     (pick (ltb 127 destination) 1
     (pick (ltb 127 source) 1
-    (pick (not (packetSize most size)) 3
+    (pick (not (sizeRight most size)) 3
     (pick (ltb room (frameSize size)) 2
     0))))
 

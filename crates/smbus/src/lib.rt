@@ -6,9 +6,9 @@ mod writing;
 
 pub use answer::Carried;
 pub use answer::Written;
-pub use reading::carried;
 pub use reading::packet;
 pub use reading::part;
+pub use reading::read;
 pub use reading::refusal;
 pub use reading::source;
 pub use writing::write;

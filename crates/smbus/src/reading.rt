@@ -14,7 +14,7 @@ ghost use Rattle.smbus.specs.Answers.{saysCarried, carriedOf};
 pub fn packet(frame: &[u8], own: u8) -> &[u8]
     ensures { λ r. ⌜ now r ≡ packetOf 64 (now (frame .entry)) own ⌝ }
 {
-    let found = carried(frame, own);
+    let found = read(frame, own);
     match found {
         Carried::Packet { source: _ } => part(frame),
         Carried::Refused(_) => &frame[0..0],
@@ -25,7 +25,7 @@ pub fn packet(frame: &[u8], own: u8) -> &[u8]
 pub fn refusal(frame: &[u8], own: u8) -> u8
     ensures { λ r. ⌜ r ≡ refusalOf 64 (now (frame .entry)) own ⌝ }
 {
-    let found = carried(frame, own);
+    let found = read(frame, own);
     match found {
         Carried::Packet { source: _ } => 0,
         Carried::Refused(why) => why.number(),
@@ -36,7 +36,7 @@ pub fn refusal(frame: &[u8], own: u8) -> u8
 pub fn source(frame: &[u8], own: u8) -> u8
     ensures { λ r. ⌜ r ≡ sourceAddressOf 64 (now (frame .entry)) own ⌝ }
 {
-    let found = carried(frame, own);
+    let found = read(frame, own);
     match found {
         Carried::Packet { source } => source,
         Carried::Refused(_) => 0,
@@ -44,13 +44,13 @@ pub fn source(frame: &[u8], own: u8) -> u8
 }
 
 // All that one pass over the frame tells: the work of every question above.
-pub fn carried(frame: &[u8], own: u8) -> Carried
+pub fn read(frame: &[u8], own: u8) -> Carried
     ensures { λ r. ⌜ saysCarried r ≡ carriedOf 64 (now (frame .entry)) own ⌝ }
 {
-    carried_within(mctp::LARGEST_BODY, frame, own)
+    read_within(mctp::LARGEST_BODY, frame, own)
 }
 
-// The bytes where a packet stands, also of a frame that is refused: who has not asked `carried` gets bytes
+// The bytes where a packet stands, also of a frame that is refused: who has not asked `read` gets bytes
 // that no check let through. It is `packet` that is empty where refused.
 pub fn part(frame: &[u8]) -> &[u8]
     ensures { λ r. ⌜ now r ≡ partOf (now (frame .entry)) ⌝ }
@@ -63,7 +63,7 @@ pub fn part(frame: &[u8]) -> &[u8]
 }
 
 // Checks 1 and 3, which need no byte of the frame.
-fn carried_within(most: usize, frame: &[u8], own: u8) -> Carried
+fn read_within(most: usize, frame: &[u8], own: u8) -> Carried
     ensures { λ r. ⌜ saysCarried r ≡ carriedOf most (now (frame .entry)) own ⌝ }
 {
     if !lies_within(64, 246, most) {
@@ -75,11 +75,11 @@ fn carried_within(most: usize, frame: &[u8], own: u8) -> Carried
     if !lies_within(10, 9 + most, frame.len()) {
         return Carried::Refused(Refusal::Size);
     }
-    carried_sized(most, frame, own)
+    read_sized(most, frame, own)
 }
 
 // Checks 4 to 8, the PEC last: it is worked out once, and only where all else is right.
-fn carried_sized(most: usize, frame: &[u8], own: u8) -> Carried
+fn read_sized(most: usize, frame: &[u8], own: u8) -> Carried
     requires { ⌜ Sized most (now frame) own ⌝ }
     ensures { λ r. ⌜ saysCarried r ≡ carriedOf most (now (frame .entry)) own ⌝ }
 {

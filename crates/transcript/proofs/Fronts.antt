@@ -8,7 +8,7 @@ use native.Mathlib.Omega.{arith}
 use lib.ListN.{length, getD, take, drop, set, length-take, length-drop}
 use lib.Seq.{getD-take, getD-drop, length-take-le, take-all, take-add, take-append-seam, drop-at}
 use Rattle.octets.specs.Bytes.{laid, fronted}
-use Rattle.octets.proofs.Laid.{laid-turn, laid-front}
+use Rattle.octets.proofs.Laid.{laid-next, laid-front}
 use Rattle.receiver.proofs.Laid.{laid-behind}
 use Rattle.transcript.specs.Front.{between, movedOf}
 
@@ -41,18 +41,18 @@ module _ (s : List ℕ) (from end : ℕ) where
   moved-all n e = ap (laid s 0) (take-all n (between s from end) (omega (arith, between-size)))
 
   -- a turn
-  pub moved-turn : (i : ℕ) → i < min end (length s) - from
+  pub moved-next : (i : ℕ) → i < min end (length s) - from
       → set (laid s 0 (take i (between s from end))) i (getD (laid s 0 (take i (between s from end))) (from + i) 0)
       ≡ laid s 0 (take (suc i) (between s from end))
   unfolding between
-  moved-turn i h =
+  moved-next i h =
       let size = between-size in
       let part = length-take-le i (between s from end) (omega arith) in
       let here : getD (laid s 0 (take i (between s from end))) (from + i) 0 ≡ getD (between s from end) i 0 =
       laid-behind s 0 (take i (between s from end)) (from + i) (omega arith)
       ∙ sym (getD-take (end - from) (drop from s) i 0 (omega arith) ∙ getD-drop from s i 0) in
       rw here (ap (λ (k : ℕ). set (laid s 0 (take i (between s from end))) k (getD (between s from end) i 0))
-      (sym (zero-add i)) ∙ laid-turn s 0 (between s from end) i (omega arith))
+      (sym (zero-add i)) ∙ laid-next s 0 (between s from end) i (omega arith))
 
   -- what was moved stands at the front
   pub moved-front : take (length (between s from end)) (movedOf s from end) ≡ between s from end

@@ -13,7 +13,7 @@ use lib.Dec.{eqb}
 use lib.ListN.{length, length-append}
 use Rattle.octets.specs.Choice.{pick}
 use Rattle.smbus.specs.Reading.{refusalOf}
-use Rattle.rack.specs.declared.answer.Known.{Known}
+use Rattle.rack.specs.declared.answer.Beside.{Beside}
 use Rattle.rack.specs.Arrivals as carrier
 use Rattle.rack.specs.Answers.{arrivedOf}
 use Rattle.records.specs.Record.{recordOf, joined, recordsOf, restOf}
@@ -59,12 +59,12 @@ run-arrivals s m (f ∷ frames) h =
     run-arrivals (frameOf s m f .state) (frameOf s m f .memory) frames (omega arith) ∙ omega arith
 
 -- "Packets counts arrivals in which a packet was found": of one frame
-found : (s : State) (m p : List ℕ) (known : Known) (why : carrier.Without) (good : Bool)
+found : (s : State) (m p : List ℕ) (beside : Beside) (why : carrier.Without) (good : Bool)
     → s .packets < 18446744073709551615
-    → withPacket (arrivedOf 64 (s .receiver) m (pick good (carrier.packet p known) (carrier.none why)) .told)
+    → withPacket (arrivedOf 64 (s .receiver) m (pick good (carrier.packet p beside) (carrier.none why)) .told)
     (s .packets) ≡ s .packets + pick good 1 0
-found s m p known why true h = more-is (s .packets) h
-found s m p known why false h = omega arith
+found s m p beside why true h = more-is (s .packets) h
+found s m p beside why false h = omega arith
 
 one-or-none : (good : Bool) → pick good 1 0 ≤ 1
 one-or-none true = omega arith
@@ -73,7 +73,7 @@ one-or-none false = omega arith
 -- and of some frames
 pub run-packets : (s : State) (m : List ℕ) (frames : List (List ℕ)) → s .packets + length frames ≤ 18446744073709551615
     → run s m frames .state .packets ≡ s .packets + packetsIn frames
-unfolding run frameOf packetsIn carrier.smbusCarries
+unfolding run frameOf packetsIn carrier.smbusBrings
 run-packets s m [] h = omega arith
 run-packets s m (f ∷ frames) h =
     let one : frameOf s m f .state .packets ≡ s .packets + pick (eqb (refusalOf 64 f ownAddress) 0) 1 0 =

@@ -17,8 +17,8 @@ use Rattle.decision.specs.Checks as checks
 use Rattle.decision.specs.Rules as rules
 use Rattle.decision.specs.Decision.{fromSource, fromPacket, decided}
 use Rattle.receiver.specs.Step.{stepOf}
-use Rattle.rack.specs.declared.answer.Known.the-variants.{Source}
-use Rattle.rack.specs.Arrivals.{packet, none, refused, smbusCarries}
+use Rattle.rack.specs.declared.answer.Beside.the-variants.{Source}
+use Rattle.rack.specs.Arrivals.{packet, none, refused, smbusBrings}
 use Rattle.records.specs.declared.line.Line.the-variants.{Done, Refused}
 use Rattle.records.specs.Decimal.{digits, decimal}
 use Rattle.records.specs.Line.{named, pair, lineBytes, lastLine}
@@ -28,14 +28,14 @@ use Rattle.transcript.specs.Frame.{start, oneMore, After, after, frameOf
 use Rattle.transcript.specs.Transcript.{run, transcriptOf}
 
 -- "`40 0F 06 23 01 09 0A C8 00 71` is a good frame for address 0x20: done at EID 9, length 1"
-found : smbusCarries 64 (0x40 ∷ 0x0F ∷ 0x06 ∷ 0x23 ∷ 0x01 ∷ 0x09 ∷ 0x0A ∷ 0xC8 ∷ 0x00 ∷ 0x71 ∷ []) 0x20
+found : smbusBrings 64 (0x40 ∷ 0x0F ∷ 0x06 ∷ 0x23 ∷ 0x01 ∷ 0x09 ∷ 0x0A ∷ 0xC8 ∷ 0x00 ∷ 0x71 ∷ []) 0x20
     ≡ packet (0x01 ∷ 0x09 ∷ 0x0A ∷ 0xC8 ∷ 0x00 ∷ []) (Source 17)
-unfolding smbusCarries smbus.refusalOf smbus.endOf smbus.beforeEnd smbus.partOf smbus.packetOf smbus.sourceAddressOf
+unfolding smbusBrings smbus.refusalOf smbus.endOf smbus.beforeEnd smbus.partOf smbus.packetOf smbus.sourceAddressOf
     pec.polyStep pec.eightSteps pec.byteStep pec.pecFrom pec.pecOf
 found = refl
 
-short : smbusCarries 64 (0x00 ∷ []) 0x20 ≡ none (refused 3)
-unfolding smbusCarries smbus.refusalOf
+short : smbusBrings 64 (0x00 ∷ []) 0x20 ≡ none (refused 3)
+unfolding smbusBrings smbus.refusalOf
 short = refl
 
 done : decided 64 (fresh (record { own = record { 0 = 9 } })) 4096 (0x01 ∷ 0x09 ∷ 0x0A ∷ 0xC8 ∷ 0x00 ∷ [])

@@ -35,7 +35,7 @@ lineWithout (carrier.skipped number next) = Refused number
 lineWithout (carrier.refused number) = Refused number
 
 abbrev pub lineOf : Told → Line
-lineOf (given known said) = lineOfSaid said
+lineOf (given beside said) = lineOfSaid said
 lineOf (nothing why) = lineWithout why
 
 -- a count of 64 bits, which stops at 2^64 - 1
@@ -44,7 +44,7 @@ oneMore n = pick (ltb n 18446744073709551615) (n + 1) n
 
 -- "Packets counts arrivals in which a packet was found."
 abbrev pub withPacket : Told → ℕ → ℕ
-withPacket (given known said) n = oneMore n
+withPacket (given beside said) n = oneMore n
 withPacket (nothing why) n = n
 
 -- what a frame makes of the state and the memory, and the bytes of its line
@@ -69,7 +69,7 @@ after s a =
 
 -- one frame's arrival at our own address
 unfoldable pub frameOf : State → List ℕ → List ℕ → After
-frameOf s m frame = after s (arrivedOf 64 (s .receiver) m (carrier.smbusCarries 64 frame ownAddress))
+frameOf s m frame = after s (arrivedOf 64 (s .receiver) m (carrier.smbusBrings 64 frame ownAddress))
 
 -- all that a frame's call leaves: the line put to the output, or the output as it was
 pub record Left : Type 0 where

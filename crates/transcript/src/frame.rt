@@ -23,9 +23,9 @@ pub fn frame_line(
         ≡ lined (frameOf before (now (memory .entry)) (now (frame .entry))) (now (output .entry)) at ⌝ }
 {
     let receiver = before.receiver;
-    let outcome = rack::from_smbus(frame, state::ADDRESS, receiver, memory);
-    let arrived = outcome.arrived;
-    let after = outcome.receiver;
+    let received = rack::from_smbus(frame, state::ADDRESS, receiver, memory);
+    let arrived = received.arrived;
+    let after = received.receiver;
     let arrivals = state::one_more(before.arrivals);
     let packets = state::with_packet(arrived, before.packets);
     let line = line::line_of(arrived);

@@ -47,7 +47,7 @@ pub fn line_of(arrived: Arrived) -> Line
     ensures { λ r. ⌜ r ≡ lineOf (tells arrived) ⌝ }
 {
     match arrived {
-        Arrived::Given { known: _, answer } => line_of_answer(answer),
+        Arrived::Given { beside: _, answer } => line_of_answer(answer),
         Arrived::Nothing { why } => line_without(why),
     }
 }

@@ -41,7 +41,7 @@ pub fn with_packet(arrived: Arrived, count: u64) -> u64
 {
     match arrived {
         Arrived::Given {
-            known: _,
+            beside: _,
             answer: _,
         } => one_more(count),
         Arrived::Nothing { why: _ } => count,

@@ -7,10 +7,10 @@ use denote.Ref.{now}
 use Rattle.octets.proofs.Choice.{determined}
 use Rattle.descriptor.specs.declared.place.Place.{Place}
 use Rattle.window.specs.declared.word.Interface.{Interface}
-use Rattle.window.proofs.part.refusal.Reads as refusal
-use Rattle.window.proofs.part.place_of.Reads as place-of
-use Rattle.window.proofs.part.cut.Reads as cut
-use Rattle.window.proofs.word.look.Reads as look
+use Rattle.window.proofs.place.refusal.Reads as refusal
+use Rattle.window.proofs.place.place_of.Reads as place-of
+use Rattle.window.proofs.place.area.Reads as area
+use Rattle.window.proofs.word.interface_of.Reads as interface-of
 use Rattle.window.proofs.word.store.Reads as store
 use Rattle.window.proofs.word.store_pointer.Reads as store-pointer
 
@@ -22,13 +22,13 @@ pub place-of-determined : (κs : Lfts 1) (a : _) (r q : Place) (e f : _) → pla
     → place-of.Post κs a q f → r ≡ q
 place-of-determined κs a r q e f p o = determined p o
 
--- the part shows the same bytes; where it lies is not said
-pub cut-determined : (κs : Lfts 1) (a r q e f : _) → cut.Post κs a r e → cut.Post κs a q f → now r ≡ now q
-cut-determined κs a r q e f p o = determined p o
+-- the area shows the same bytes; where it lies is not said
+pub area-determined : (κs : Lfts 1) (a r q e f : _) → area.Post κs a r e → area.Post κs a q f → now r ≡ now q
+area-determined κs a r q e f p o = determined p o
 
-pub look-determined : (κs : Lfts 1) (a : _) (r q : Interface) (e f : _) → look.Post κs a r e → look.Post κs a q f → r
+pub interface-of-determined : (κs : Lfts 1) (a : _) (r q : Interface) (e f : _) → interface-of.Post κs a r e → interface-of.Post κs a q f → r
     ≡ q
-look-determined κs a r q e f p o = determined p o
+interface-of-determined κs a r q e f p o = determined p o
 
 pub store-determined : (κs : Lfts 1) (a : _) (r q : ℕ) (e f : _) → store.Post κs a r e → store.Post κs a q f
     → (r ≡ q) × (e .0 .now ≡ f .0 .now)
@@ -42,8 +42,8 @@ store-pointer-determined κs a r q e f p o = (determined (p .0) (o .0), determin
 -- No call asks anything of its arguments first.
 pub no-requires : ((κs : Lfts 1) (a : _) → refusal.Pre κs a)
     × ((κs : Lfts 1) (a : _) → place-of.Pre κs a)
-    × ((κs : Lfts 1) (a : _) → cut.Pre κs a)
-    × ((κs : Lfts 1) (a : _) → look.Pre κs a)
+    × ((κs : Lfts 1) (a : _) → area.Pre κs a)
+    × ((κs : Lfts 1) (a : _) → interface-of.Pre κs a)
     × ((κs : Lfts 1) (a : _) → store.Pre κs a)
     × ((κs : Lfts 1) (a : _) → store-pointer.Pre κs a)
 no-requires = ((λ κs a. tt), (λ κs a. tt), (λ κs a. tt), (λ κs a. tt), (λ κs a. tt), (λ κs a. tt))

@@ -1,7 +1,7 @@
-pub mod Parts
+pub mod Areas
 pub mod LaidWords
 pub mod Stores
 pub mod Determined
 pub mod Literal
-pub mod Looks
+pub mod Interfaces
 pub mod PutBack

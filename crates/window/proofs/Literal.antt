@@ -11,13 +11,13 @@ use Rattle.mmbi.specs.declared.word.Word.{Word}
 use Rattle.mmbi.specs.Interface.{flagsOf}
 use Rattle.mmbi.specs.Words.{wordOf, numberOf}
 use Rattle.descriptor.specs.declared.configuration.Configuration.{Configuration}
-use Rattle.descriptor.specs.declared.configuration.Part.the-variants.{B2h, H2b, Ros, Rws}
+use Rattle.descriptor.specs.declared.configuration.Area.the-variants.{B2h, H2b, Ros, Rws}
 use Rattle.descriptor.specs.Configuration.{inside, clear, ringRight, allowed}
 use Rattle.descriptor.proofs.Literal.{descriptorImage, rosImage, windowImage, imageConfiguration}
 use Rattle.window.specs.declared.word.Pointer.{Pointer}
 use Rattle.window.specs.declared.word.Pointer.the-variants.{H2bWrite, B2hRead, B2hWrite, H2bRead}
 use Rattle.window.specs.declared.word.Interface.{Interface}
-use Rattle.window.specs.Window.{setupOf, placeIn, partOf, cleared, wordIn, interfaceIn, storeRefusal, stored}
+use Rattle.window.specs.Window.{setupOf, placeIn, areaOf, cleared, wordIn, interfaceIn, storeRefusal, stored}
 use Rattle.window.specs.Window.{storedPointer}
 
 -- 1 in a window one byte too short; nothing lies there then
@@ -29,7 +29,7 @@ pub image-nowhere : placeIn 339 imageConfiguration H2b ≡ record { offset = 0; 
 unfolding placeIn allowed inside clear ringRight
 image-nowhere = refl
 
--- where the four parts lie, and what stands in the structures
+-- where the four areas lie, and what stands in the structures
 pub image-places : map (placeIn 340 imageConfiguration) (B2h ∷ H2b ∷ Ros ∷ Rws ∷ [])
     ≡ record { offset = 80; length = 128 }
     ∷ record { offset = 208; length = 132 }
@@ -39,13 +39,13 @@ pub image-places : map (placeIn 340 imageConfiguration) (B2h ∷ H2b ∷ Ros ∷
 unfolding placeIn allowed inside clear ringRight
 image-places = refl
 
-pub image-parts : map (partOf windowImage imageConfiguration) (B2h ∷ H2b ∷ Ros ∷ Rws ∷ [])
+pub image-parts : map (areaOf windowImage imageConfiguration) (B2h ∷ H2b ∷ Ros ∷ Rws ∷ [])
     ≡ replicate 128 0
     ∷ replicate 132 0
     ∷ (0 ∷ 0 ∷ 0 ∷ 18 ∷ 0 ∷ 0 ∷ 0 ∷ 9 ∷ [])
     ∷ (0 ∷ 0 ∷ 0 ∷ 34 ∷ 0 ∷ 0 ∷ 0 ∷ 5 ∷ [])
     ∷ []
-unfolding partOf placeIn allowed inside clear ringRight
+unfolding areaOf placeIn allowed inside clear ringRight
 image-parts = refl
 
 -- both words of Host_RWS and of Host_ROS
@@ -73,10 +73,10 @@ abbrev withWords : List ℕ → List ℕ → List ℕ → List ℕ → List ℕ
 withWords b2hWrite h2bRead h2bWrite b2hRead =
     descriptorImage ++ (b2hWrite ++ (h2bRead ++ (h2bWrite ++ (b2hRead ++ replicate 260 0))))
 
-abbrev low : ℕ → List ℕ
-low n = 0 ∷ 0 ∷ 0 ∷ n ∷ []
+abbrev bit0 : ℕ → List ℕ
+bit0 n = 0 ∷ 0 ∷ 0 ∷ n ∷ []
 
--- what a look gives where these bits are set and every pointer is 0
+-- what the words give where these bits are set and every pointer is 0
 abbrev flagged : Bool → Bool → Bool → Bool → Bool → Bool → Interface
 flagged bUp bRst hUp hRst hRdy bRdy =
     record {
@@ -90,13 +90,13 @@ flagged bUp bRst hUp hRst hRdy bRdy =
 -- each flag alone: B_UP, B_RST, B_RDY, H_UP, H_RST, H_RDY; then the two reserved bits, which say nothing
 pub each-flag :
     map (λ (s : List ℕ). interfaceIn s imageConfiguration)
-    (withWords (low 2) (low 0) (low 0) (low 0)
-    ∷ withWords (low 1) (low 0) (low 0) (low 0)
-    ∷ withWords (low 0) (low 1) (low 0) (low 0)
-    ∷ withWords (low 0) (low 0) (low 2) (low 0)
-    ∷ withWords (low 0) (low 0) (low 1) (low 0)
-    ∷ withWords (low 0) (low 0) (low 0) (low 1)
-    ∷ withWords (low 0) (low 2) (low 0) (low 2)
+    (withWords (bit0 2) (bit0 0) (bit0 0) (bit0 0)
+    ∷ withWords (bit0 1) (bit0 0) (bit0 0) (bit0 0)
+    ∷ withWords (bit0 0) (bit0 1) (bit0 0) (bit0 0)
+    ∷ withWords (bit0 0) (bit0 0) (bit0 2) (bit0 0)
+    ∷ withWords (bit0 0) (bit0 0) (bit0 1) (bit0 0)
+    ∷ withWords (bit0 0) (bit0 0) (bit0 0) (bit0 1)
+    ∷ withWords (bit0 0) (bit0 2) (bit0 0) (bit0 2)
     ∷ [])
     ≡ flagged true false false false false false
     ∷ flagged false true false false false false
@@ -147,7 +147,7 @@ kept n = replicate n 238
 -- pointer 772 (0304) with each flag alone, in each word: bit 1 beside a read pointer is reserved, so 0
 pub each-store :
     map (λ (w : Word). structures B2hWrite w ++ structures H2bRead w ++ structures H2bWrite w ++ structures B2hRead w)
-    (record { pointer = 772; high = true; low = false } ∷ record { pointer = 772; high = false; low = true } ∷ [])
+    (record { pointer = 772; bit1 = true; bit0 = false } ∷ record { pointer = 772; bit1 = false; bit0 = true } ∷ [])
     ≡ ((0 ∷ 0 ∷ 3 ∷ 6 ∷ kept 12) ++ (kept 4 ++ (0 ∷ 0 ∷ 3 ∷ 4 ∷ kept 8)) ++ (kept 8 ++ (0 ∷ 0 ∷ 3 ∷ 6 ∷ kept 4))
     ++ (kept 12 ++ (0 ∷ 0 ∷ 3 ∷ 4 ∷ [])))
     ∷ ((0 ∷ 0 ∷ 3 ∷ 5 ∷ kept 12) ++ (kept 4 ++ (0 ∷ 0 ∷ 3 ∷ 5 ∷ kept 8)) ++ (kept 8 ++ (0 ∷ 0 ∷ 3 ∷ 5 ∷ kept 4))
@@ -178,7 +178,7 @@ setup-first = refl
 
 -- B2H_RP moved on to 8 where its word is 00 00 00 07: H_RDY stays, the reserved bit doesn't
 pub reserved-cleared : take 16
-    (drop 64 (storedPointer (withWords (low 0) (low 0) (low 0) (low 7)) imageConfiguration B2hRead 8))
+    (drop 64 (storedPointer (withWords (bit0 0) (bit0 0) (bit0 0) (bit0 7)) imageConfiguration B2hRead 8))
     ≡ replicate 15 0 ++ (9 ∷ [])
 unfolding storedPointer stored storeRefusal wordIn cleared wordOf numberOf allowed inside clear ringRight wordAt
     wordBytes laid

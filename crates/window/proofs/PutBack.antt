@@ -11,57 +11,57 @@ use lib.Seq.{length-take-le, take-at, drop-at, drop-drop}
 use Rattle.octets.specs.Words.{highFirst}
 use Rattle.octets.proofs.Laid.{laid-fits, laid-length}
 use Rattle.descriptor.specs.declared.configuration.Configuration.{Configuration}
-use Rattle.descriptor.specs.declared.configuration.Part.{Part}
-use Rattle.descriptor.specs.declared.configuration.Part.the-variants.{B2h, H2b, Ros, Rws}
+use Rattle.descriptor.specs.declared.configuration.Area.{Area}
+use Rattle.descriptor.specs.declared.configuration.Area.the-variants.{B2h, H2b, Ros, Rws}
 use Rattle.descriptor.specs.Places.{endOf, Apart}
-use Rattle.descriptor.specs.Configuration.{partPlace, isRing, allowed, Allowed, RingRight}
+use Rattle.descriptor.specs.Configuration.{areaPlace, isRing, allowed, Allowed, RingRight}
 use Rattle.descriptor.proofs.Configurations.{allowed-facts}
 use Rattle.window.specs.declared.word.Pointer.{Pointer}
 use Rattle.window.specs.declared.word.Pointer.the-variants.{H2bWrite, B2hRead, B2hWrite, H2bRead}
-use Rattle.window.specs.Window.{placeIn, partOf, putBack, wordPlace, wordIn, interfaceIn, RingChanged}
+use Rattle.window.specs.Window.{placeIn, areaOf, putBack, wordPlace, wordIn, interfaceIn, RingChanged}
 use Rattle.window.proofs.LaidWords.{laid-beside, laid-word-beside}
-use Rattle.window.proofs.Parts.{part-fits, ring-right}
+use Rattle.window.proofs.Areas.{area-fits, ring-right}
 use Rattle.window.proofs.Stores.{ring-clear, beside}
 
--- a ring is apart from every other part
-parts-apart : (window : ℕ) (c : Configuration) (ring other : Part) → isRing ring ≡ true → (other ≡ ring → ⊥)
-    → Allowed window c → Apart (partPlace c ring) (partPlace c other)
-parts-apart window c B2h B2h r e a = absurd (e refl)
-parts-apart window c B2h H2b r e a = a .rings
-parts-apart window c B2h Ros r e a = a .b2h-clear .ros
-parts-apart window c B2h Rws r e a = a .b2h-clear .rws
-parts-apart window c H2b B2h r e a = ⊎-elim (λ (h : _). inr h) (λ (h : _). inl h) (a .rings)
-parts-apart window c H2b H2b r e a = absurd (e refl)
-parts-apart window c H2b Ros r e a = a .h2b-clear .ros
-parts-apart window c H2b Rws r e a = a .h2b-clear .rws
-parts-apart window c Ros other r e a = absurd (false≢true r)
-parts-apart window c Rws other r e a = absurd (false≢true r)
+-- a ring is apart from every other area
+areas-apart : (window : ℕ) (c : Configuration) (ring other : Area) → isRing ring ≡ true → (other ≡ ring → ⊥)
+    → Allowed window c → Apart (areaPlace c ring) (areaPlace c other)
+areas-apart window c B2h B2h r e a = absurd (e refl)
+areas-apart window c B2h H2b r e a = a .rings
+areas-apart window c B2h Ros r e a = a .b2h-clear .ros
+areas-apart window c B2h Rws r e a = a .b2h-clear .rws
+areas-apart window c H2b B2h r e a = ⊎-elim (λ (h : _). inr h) (λ (h : _). inl h) (a .rings)
+areas-apart window c H2b H2b r e a = absurd (e refl)
+areas-apart window c H2b Ros r e a = a .h2b-clear .ros
+areas-apart window c H2b Rws r e a = a .h2b-clear .rws
+areas-apart window c Ros other r e a = absurd (false≢true r)
+areas-apart window c Rws other r e a = absurd (false≢true r)
 
-module _ (s : List ℕ) (c : Configuration) (ring : Part) (bytes : List ℕ) (is : isRing ring ≡ true)
-    (ok : allowed (length s) c ≡ true) (fits : length bytes ≡ partPlace c ring .length) where
+module _ (s : List ℕ) (c : Configuration) (ring : Area) (bytes : List ℕ) (is : isRing ring ≡ true)
+    (ok : allowed (length s) c ≡ true) (fits : length bytes ≡ areaPlace c ring .length) where
   facts : Allowed (length s) c
   facts = allowed-facts (length s) c ok
 
   kept-length : length (putBack s c ring bytes) ≡ length s
-  kept-length = laid-length s (partPlace c ring .offset) bytes
+  kept-length = laid-length s (areaPlace c ring .offset) bytes
 
   -- what lies before the ring, and behind it
   abbrev place : ℕ
-  place = partPlace c ring .offset
+  place = areaPlace c ring .offset
 
   laid-there : putBack s c ring bytes ≡ take place s ++ (bytes ++ drop (place + length bytes) s)
-  laid-there = laid-fits s place bytes (omega (arith, part-fits (length s) c ring facts, fits))
+  laid-there = laid-fits s place bytes (omega (arith, area-fits (length s) c ring facts, fits))
 
   front : length (take place s) ≡ place
-  front = length-take-le place s (omega (arith, part-fits (length s) c ring facts))
+  front = length-take-le place s (omega (arith, area-fits (length s) c ring facts))
 
   before-stays : take place (putBack s c ring bytes) ≡ take place s
   before-stays = ap (take place) laid-there ∙ take-at (take place s) _ place front
 
-  behind-stays : drop (endOf (partPlace c ring)) (putBack s c ring bytes) ≡ drop (endOf (partPlace c ring)) s
+  behind-stays : drop (endOf (areaPlace c ring)) (putBack s c ring bytes) ≡ drop (endOf (areaPlace c ring)) s
   behind-stays =
       let rest = drop (place + length bytes) s in
-      let n = partPlace c ring .length in
+      let n = areaPlace c ring .length in
       ap (drop (place + n)) laid-there
       ∙ sym (drop-drop n place (take place s ++ (bytes ++ rest)))
       ∙ ap (drop n) (drop-at (take place s) (bytes ++ rest) place front)
@@ -71,8 +71,8 @@ module _ (s : List ℕ) (c : Configuration) (ring : Part) (bytes : List ℕ) (is
   -- the descriptor
   descriptor-stays : take 64 (putBack s c ring bytes) ≡ take 64 s
   descriptor-stays =
-      let right : RingRight (partPlace c ring) = ring-right (length s) c ring is facts in
-      laid-beside s (partPlace c ring .offset) bytes 0 64
+      let right : RingRight (areaPlace c ring) = ring-right (length s) c ring is facts in
+      laid-beside s (areaPlace c ring .offset) bytes 0 64
       (⊎-elim (λ (h : _). absurd (omega (arith, right .least))) (λ (h : _). inr h)
       (ring-clear (length s) c ring is facts .descriptor))
 
@@ -90,20 +90,20 @@ module _ (s : List ℕ) (c : Configuration) (ring : Part) (bytes : List ℕ) (is
   words-stay = rw (word-stays H2bWrite, word-stays B2hRead, word-stays B2hWrite, word-stays H2bRead)
 
   -- both structures and the other ring
-  others-stay : (other : Part) → (other ≡ ring → ⊥) → partOf (putBack s c ring bytes) c other ≡ partOf s c other
-  unfolding partOf placeIn
+  others-stay : (other : Area) → (other ≡ ring → ⊥) → areaOf (putBack s c ring bytes) c other ≡ areaOf s c other
+  unfolding areaOf placeIn
   others-stay other e =
-      let q = partPlace c other in
-      let apart = parts-apart (length s) c ring other is e facts in
+      let q = areaPlace c other in
+      let apart = areas-apart (length s) c ring other is e facts in
       rw (kept-length, ok)
-      (laid-beside s (partPlace c ring .offset) bytes (q .offset) (q .length)
+      (laid-beside s (areaPlace c ring .offset) bytes (q .offset) (q .length)
       (⊎-elim (λ (h : _). inl (omega (arith, fits))) (λ (h : _). inr h) apart))
 
   -- and the ring itself has the bytes that came back
-  ring-is-back : partOf (putBack s c ring bytes) c ring ≡ bytes
-  unfolding partOf placeIn
+  ring-is-back : areaOf (putBack s c ring bytes) c ring ≡ bytes
+  unfolding areaOf placeIn
   ring-is-back =
-      let n = partPlace c ring .length in
+      let n = areaPlace c ring .length in
       let rest = drop (place + length bytes) s in
       rw (kept-length, ok)
       (ap (λ (l : List ℕ). take n (drop place l)) laid-there

@@ -21,24 +21,24 @@ use Rattle.mmbi.specs.Words.{wordOf, numberOf}
 use Rattle.mmbi.proofs.Pointers.{Pointer as In, pointer-facts}
 use Rattle.mmbi.proofs.Words.{word-back, number-below}
 use Rattle.descriptor.specs.declared.configuration.Configuration.{Configuration}
-use Rattle.descriptor.specs.declared.configuration.Part.{Part}
-use Rattle.descriptor.specs.declared.configuration.Part.the-variants.{B2h, H2b, Ros, Rws}
+use Rattle.descriptor.specs.declared.configuration.Area.{Area}
+use Rattle.descriptor.specs.declared.configuration.Area.the-variants.{B2h, H2b, Ros, Rws}
 use Rattle.window.specs.declared.word.Pointer.{Pointer}
 use Rattle.window.specs.declared.word.Pointer.the-variants.{H2bWrite, B2hRead, B2hWrite, H2bRead}
-use Rattle.descriptor.specs.Configuration.{partPlace, isRing, allowed, Clear, Allowed}
-use Rattle.window.specs.Window.{placeIn, bytesAt, partOf, wordPlace, hasUp, cleared, wordIn, pointsInto}
+use Rattle.descriptor.specs.Configuration.{areaPlace, isRing, allowed, Clear, Allowed}
+use Rattle.window.specs.Window.{placeIn, bytesAt, areaOf, wordPlace, hasUp, cleared, wordIn, pointsInto}
 use Rattle.window.specs.Window.{storeRefusal, withWord, stored, storedPointer}
 use Rattle.descriptor.proofs.Configurations.{allowed-facts}
-use Rattle.window.proofs.Parts.{ring-right}
+use Rattle.window.proofs.Areas.{ring-right}
 use Rattle.window.proofs.LaidWords.{laid-word, laid-beside, laid-word-beside, word-length}
 
 -- clearing what is reserved once is enough
 cleared-twice : (p : Pointer) (w : Word) → cleared p (cleared p w) ≡ cleared p w
 unfolding cleared
 cleared-twice p w =
-    let high : (w .high && hasUp p && hasUp p) ≡ (w .high && hasUp p) = and-assoc (w .high) (hasUp p) (hasUp p)
-    ∙ ap (λ (u : Bool). w .high && u) (and-self (hasUp p)) in
-    λ i. record { pointer = w .pointer; high = high i; low = w .low }
+    let bit1 : (w .bit1 && hasUp p && hasUp p) ≡ (w .bit1 && hasUp p) = and-assoc (w .bit1) (hasUp p) (hasUp p)
+    ∙ ap (λ (u : Bool). w .bit1 && u) (and-self (hasUp p)) in
+    λ i. record { pointer = w .pointer; bit1 = bit1 i; bit0 = w .bit0 }
 
 -- each word lies in its structure, and so in the window
 word-fits : (window : ℕ) (c : Configuration) (p : Pointer) → Allowed window c → wordPlace c p + 4 ≤ window
@@ -56,15 +56,15 @@ points-into-ring H2bRead = refl
 
 -- nothing is refused of a pointer that an allowed configuration's ring can have, and of no other
 pub store-good : (window : ℕ) (c : Configuration) (p : Pointer) (at : ℕ) → allowed window c ≡ true
-    → pointerRight (partPlace c (pointsInto p) .length) at ≡ true → storeRefusal window c p at ≡ 0
+    → pointerRight (areaPlace c (pointsInto p) .length) at ≡ true → storeRefusal window c p at ≡ 0
 unfolding storeRefusal
 store-good window c p at ok right = rw (ok, right)
 
 pub store-facts : (window : ℕ) (c : Configuration) (p : Pointer) (at : ℕ) → storeRefusal window c p at ≡ 0
-    → (allowed window c ≡ true) × In (partPlace c (pointsInto p) .length) at
+    → (allowed window c ≡ true) × In (areaPlace c (pointsInto p) .length) at
 unfolding storeRefusal
 store-facts window c p at e =
-    let n = partPlace c (pointsInto p) .length in
+    let n = areaPlace c (pointsInto p) .length in
     let a = checked 0 (allowed window c) _ e in
     (a .0, pointer-facts n at (checked 11 (pointerRight n at) 0 (a .1) .0))
   where
@@ -92,7 +92,7 @@ pub pointer-refused : (s : List ℕ) (c : Configuration) (p : Pointer) (at : ℕ
     → (storeRefusal (length s) c p at ≡ 0 → ⊥) → storedPointer s c p at ≡ s
 unfolding storedPointer
 pointer-refused s c p at =
-    stored-refused s c p (record { pointer = at; high = wordIn s c p .high; low = wordIn s c p .low })
+    stored-refused s c p (record { pointer = at; bit1 = wordIn s c p .bit1; bit0 = wordIn s c p .bit0 })
 
 module _ (s : List ℕ) (c : Configuration) (p : Pointer) (w : Word)
     (good : storeRefusal (length s) c p (w .pointer) ≡ 0) where
@@ -119,23 +119,23 @@ module _ (s : List ℕ) (c : Configuration) (p : Pointer) (w : Word)
   unfolding cleared
   stored-back =
       let pointer = store-facts (length s) c p (w .pointer) good .1 in
-      let high = ring-right (length s) c (pointsInto p) (points-into-ring p) (allowed-facts (length s) c ok) .most in
+      let bit1 = ring-right (length s) c (pointsInto p) (points-into-ring p) (allowed-facts (length s) c ok) .most in
       word-stored
-      ∙ ap (cleared p) (word-back (cleared p w) (pointer .fours) (omega (arith, pointer .below, high)))
+      ∙ ap (cleared p) (word-back (cleared p w) (pointer .fours) (omega (arith, pointer .below, bit1)))
       ∙ cleared-twice p w
 
 -- a pointer stored alone reads back, and loses no flag
 pub pointer-back : (s : List ℕ) (c : Configuration) (p : Pointer) (at : ℕ) → storeRefusal (length s) c p at ≡ 0
     → wordIn (storedPointer s c p at) c p
-    ≡ record { pointer = at; high = wordIn s c p .high; low = wordIn s c p .low }
+    ≡ record { pointer = at; bit1 = wordIn s c p .bit1; bit0 = wordIn s c p .bit0 }
 unfolding storedPointer cleared wordIn
 pointer-back s c p at good =
     let held = wordIn s c p in
-    let w : Word = record { pointer = at; high = held .high; low = held .low } in
-    let high : (held .high && hasUp p) ≡ held .high =
-    ap (λ (x : Word). x .high)
+    let w : Word = record { pointer = at; bit1 = held .bit1; bit0 = held .bit0 } in
+    let bit1 : (held .bit1 && hasUp p) ≡ held .bit1 =
+    ap (λ (x : Word). x .bit1)
     (cleared-twice p (wordOf (pick (allowed (length s) c) (wordAt highFirst s (wordPlace c p)) 0))) in
-    stored-back s c p w good ∙ (λ i. record { pointer = at; high = high i; low = held .low })
+    stored-back s c p w good ∙ (λ i. record { pointer = at; bit1 = bit1 i; bit0 = held .bit0 })
 
 -- what holds of the window, and of what is laid over it, holds of what is stored, refused or not
 stored-either : (s : List ℕ) (c : Configuration) (p : Pointer) (w : Word) (P : List ℕ → Type 0)
@@ -160,29 +160,29 @@ store-keeps-others s c p w q h =
     rw (stored-length s c p w, same))
 
 -- a ring is clear of both structures
-pub ring-clear : (window : ℕ) (c : Configuration) (ring : Part) → isRing ring ≡ true → Allowed window c
-    → Clear c (partPlace c ring)
+pub ring-clear : (window : ℕ) (c : Configuration) (ring : Area) → isRing ring ≡ true → Allowed window c
+    → Clear c (areaPlace c ring)
 ring-clear window c B2h r a = a .b2h-clear
 ring-clear window c H2b r a = a .h2b-clear
 ring-clear window c Ros r a = absurd (false≢true r)
 ring-clear window c Rws r a = absurd (false≢true r)
 
-pub beside : (c : Configuration) (p : Pointer) (ring : Part) → Clear c (partPlace c ring)
-    → (wordPlace c p + 4 ≤ partPlace c ring .offset)
-    ⊎ (partPlace c ring .offset + partPlace c ring .length ≤ wordPlace c p)
+pub beside : (c : Configuration) (p : Pointer) (ring : Area) → Clear c (areaPlace c ring)
+    → (wordPlace c p + 4 ≤ areaPlace c ring .offset)
+    ⊎ (areaPlace c ring .offset + areaPlace c ring .length ≤ wordPlace c p)
 beside c H2bWrite ring k = ⊎-elim (λ (h : _). inr h) (λ (h : _). inl (omega arith)) (k .rws)
 beside c B2hRead ring k = ⊎-elim (λ (h : _). inr (omega arith)) (λ (h : _). inl (omega arith)) (k .rws)
 beside c B2hWrite ring k = ⊎-elim (λ (h : _). inr h) (λ (h : _). inl (omega arith)) (k .ros)
 beside c H2bRead ring k = ⊎-elim (λ (h : _). inr (omega arith)) (λ (h : _). inl (omega arith)) (k .ros)
 
 -- a word that is stored changes no byte of a ring
-pub store-keeps-rings : (s : List ℕ) (c : Configuration) (p : Pointer) (w : Word) (ring : Part) → isRing ring ≡ true
-    → partOf (stored s c p w) c ring ≡ partOf s c ring
-unfolding partOf placeIn
+pub store-keeps-rings : (s : List ℕ) (c : Configuration) (p : Pointer) (w : Word) (ring : Area) → isRing ring ≡ true
+    → areaOf (stored s c p w) c ring ≡ areaOf s c ring
+unfolding areaOf placeIn
 store-keeps-rings s c p w ring r =
-    stored-either s c p w (λ (l : List ℕ). partOf l c ring ≡ partOf s c ring) refl
+    stored-either s c p w (λ (l : List ℕ). areaOf l c ring ≡ areaOf s c ring) refl
     (λ (good : storeRefusal (length s) c p (w .pointer) ≡ 0).
-    let q = partPlace c ring in
+    let q = areaPlace c ring in
     let n = numberOf (cleared p w) in
     let clear : Clear c q = ring-clear (length s) c ring r (allowed-facts (length s) c (ok s c p w good)) in
     rw (stored-length s c p w, ok s c p w good)

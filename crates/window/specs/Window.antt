@@ -13,12 +13,12 @@ use Rattle.mmbi.specs.declared.word.Word.{Word}
 use Rattle.mmbi.specs.Interface.{flagsOf}
 use Rattle.mmbi.specs.Pointers.{pointerRight}
 use Rattle.mmbi.specs.Words.{wordOf, numberOf}
-use Rattle.descriptor.specs.Configuration.{partPlace, allowed}
+use Rattle.descriptor.specs.Configuration.{areaPlace, allowed}
 use Rattle.descriptor.specs.Places.{endOf}
 use Rattle.descriptor.specs.declared.place.Place.{Place}
 use Rattle.descriptor.specs.declared.configuration.Configuration.{Configuration}
-use Rattle.descriptor.specs.declared.configuration.Part.{Part}
-use Rattle.descriptor.specs.declared.configuration.Part.the-variants.{B2h, H2b}
+use Rattle.descriptor.specs.declared.configuration.Area.{Area}
+use Rattle.descriptor.specs.declared.configuration.Area.the-variants.{B2h, H2b}
 use Rattle.window.specs.declared.word.Pointer.{Pointer}
 use Rattle.window.specs.declared.word.Pointer.the-variants.{H2bWrite, B2hRead, B2hWrite, H2bRead}
 use Rattle.window.specs.declared.word.Interface.{Interface}
@@ -27,21 +27,21 @@ use Rattle.window.specs.declared.word.Interface.{Interface}
 unfoldable pub setupOf : ℕ → Configuration → ℕ
 setupOf window c = pick (allowed window c) 0 1
 
--- where a part lies; a place of no bytes where refused
-unfoldable pub placeIn : ℕ → Configuration → Part → Place
-placeIn window c part = pick (allowed window c) (partPlace c part) (record { offset = 0; length = 0 })
+-- where an area lies; a place of no bytes where refused
+unfoldable pub placeIn : ℕ → Configuration → Area → Place
+placeIn window c area = pick (allowed window c) (areaPlace c area) (record { offset = 0; length = 0 })
 
 -- the bytes that stand at a place
 abbrev pub bytesAt : List ℕ → Place → List ℕ
 bytesAt s p = take (p .length) (drop (p .offset) s)
 
--- the part's bytes; none where refused
-unfoldable pub partOf : List ℕ → Configuration → Part → List ℕ
-partOf s c part = bytesAt s (placeIn (length s) c part)
+-- the area's bytes; none where refused
+unfoldable pub areaOf : List ℕ → Configuration → Area → List ℕ
+areaOf s c area = bytesAt s (placeIn (length s) c area)
 
--- the window once a part that was lent out of it is back with these bytes
-abbrev pub putBack : List ℕ → Configuration → Part → List ℕ → List ℕ
-putBack s c part bytes = laid s (partPlace c part .offset) bytes
+-- the window once an area that was lent out of it is back with these bytes
+abbrev pub putBack : List ℕ → Configuration → Area → List ℕ → List ℕ
+putBack s c area bytes = laid s (areaPlace c area .offset) bytes
 
 -- Table 3: "0:3 .. H2B_WP", "4:7 .. B2H_RP" of Host_RWS; Table 4: "0:3 .. B2H_WP", "4:7 .. H2B_RP" of Host_ROS
 abbrev pub wordPlace : Configuration → Pointer → ℕ
@@ -59,7 +59,7 @@ hasUp H2bRead = false
 
 -- 003, 4.1: reserved bits "shall be written as 0 (zero) and ignored when read"
 unfoldable pub cleared : Pointer → Word → Word
-cleared p w = record { pointer = w .pointer; high = w .high && hasUp p; low = w .low }
+cleared p w = record { pointer = w .pointer; bit1 = w .bit1 && hasUp p; bit0 = w .bit0 }
 
 -- the word that holds a pointer; where refused the pointer is 0 and the flags are clear
 unfoldable pub wordIn : List ℕ → Configuration → Pointer → Word
@@ -70,16 +70,16 @@ unfoldable pub interfaceIn : List ℕ → Configuration → Interface
 interfaceIn s c =
     record {
       flags =
-          flagsOf (wordIn s c B2hWrite .high) (wordIn s c B2hWrite .low) (wordIn s c H2bWrite .high)
-          (wordIn s c H2bWrite .low);
+          flagsOf (wordIn s c B2hWrite .bit1) (wordIn s c B2hWrite .bit0) (wordIn s c H2bWrite .bit1)
+          (wordIn s c H2bWrite .bit0);
       b2h = record { read = wordIn s c B2hRead .pointer; write = wordIn s c B2hWrite .pointer };
       h2b = record { read = wordIn s c H2bRead .pointer; write = wordIn s c H2bWrite .pointer };
-      «host_ready» = wordIn s c B2hRead .low;
-      «controller_ready» = wordIn s c H2bRead .low;
+      «host_ready» = wordIn s c B2hRead .bit0;
+      «controller_ready» = wordIn s c H2bRead .bit0;
     }
 
 -- whose pointer it is: "H2B_WP" and "H2B_RP" are the H2B ring's, the other two the B2H ring's
-abbrev pub pointsInto : Pointer → Part
+abbrev pub pointsInto : Pointer → Area
 pointsInto H2bWrite = H2b
 pointsInto B2hRead = B2h
 pointsInto B2hWrite = B2h
@@ -88,7 +88,7 @@ pointsInto H2bRead = H2b
 -- 1: a configuration that the window doesn't allow; 12: "not a multiple of 4, or not below the length" of its ring
 unfoldable pub storeRefusal : ℕ → Configuration → Pointer → ℕ → ℕ
 storeRefusal window c p at =
-    pick (allowed window c) (pick (pointerRight (partPlace c (pointsInto p) .length) at) 0 12) 1
+    pick (allowed window c) (pick (pointerRight (areaPlace c (pointsInto p) .length) at) 0 12) 1
 
 -- a word's four bytes, laid where its pointer is held
 abbrev pub withWord : List ℕ → Configuration → Pointer → Word → List ℕ
@@ -100,14 +100,14 @@ stored s c p w = pick (eqb (storeRefusal (length s) c p (w .pointer)) 0) (withWo
 
 -- the window after a pointer alone is stored: the flags are those that stood there
 unfoldable pub storedPointer : List ℕ → Configuration → Pointer → ℕ → List ℕ
-storedPointer s c p at = stored s c p (record { pointer = at; high = wordIn s c p .high; low = wordIn s c p .low })
+storedPointer s c p at = stored s c p (record { pointer = at; bit1 = wordIn s c p .bit1; bit0 = wordIn s c p .bit0 })
 
 -- a ring with other bytes, and the window else as it was: all before and behind it, so the descriptor, both structures
 -- and the other ring
-pub record RingChanged (s : List ℕ) (c : Configuration) (ring : Part) (bytes : List ℕ) : Type 0 where
-  pub before : take (partPlace c ring .offset) (putBack s c ring bytes) ≡ take (partPlace c ring .offset) s
-  pub behind : drop (endOf (partPlace c ring)) (putBack s c ring bytes) ≡ drop (endOf (partPlace c ring)) s
+pub record RingChanged (s : List ℕ) (c : Configuration) (ring : Area) (bytes : List ℕ) : Type 0 where
+  pub before : take (areaPlace c ring .offset) (putBack s c ring bytes) ≡ take (areaPlace c ring .offset) s
+  pub behind : drop (endOf (areaPlace c ring)) (putBack s c ring bytes) ≡ drop (endOf (areaPlace c ring)) s
   pub descriptor : take 64 (putBack s c ring bytes) ≡ take 64 s
-  pub others : (other : Part) → (other ≡ ring → ⊥) → partOf (putBack s c ring bytes) c other ≡ partOf s c other
+  pub others : (other : Area) → (other ≡ ring → ⊥) → areaOf (putBack s c ring bytes) c other ≡ areaOf s c other
   pub words : interfaceIn (putBack s c ring bytes) c ≡ interfaceIn s c
-  pub itself : partOf (putBack s c ring bytes) c ring ≡ bytes
+  pub itself : areaOf (putBack s c ring bytes) c ring ≡ bytes

@@ -1,7 +1,8 @@
 // The words of Host_RWS and Host_ROS in a window: read, and stored. Any configuration may be handed in here too.
+use descriptor::Area;
 use descriptor::Configuration;
-use descriptor::Part;
 use mmbi::Flags;
+use mmbi::Pointers;
 use mmbi::Word;
 ghost use mathlib.Core.Path.{_≡_};
 ghost use lib.ListN.{length};
@@ -17,12 +18,6 @@ pub enum Pointer {
     B2hRead,
     B2hWrite,
     H2bRead,
-}
-
-// A ring's pointers, in bytes from its front.
-pub struct Pointers {
-    pub read: usize,
-    pub write: usize,
 }
 
 // Everything that the four words say.
@@ -62,8 +57,8 @@ fn without_reserved(which: Pointer, word: Word) -> Word
 {
     Word {
         pointer: word.pointer,
-        high: word.high & has_up(which),
-        low: word.low,
+        bit1: word.bit1 & has_up(which),
+        bit0: word.bit0,
     }
 }
 
@@ -75,8 +70,8 @@ fn word_where(window: &[u8], ok: bool, c: Configuration, which: Pointer) -> Word
     if !ok {
         return Word {
             pointer: 0,
-            high: false,
-            low: false,
+            bit1: false,
+            bit0: false,
         };
     }
     let n = octets::word_high_first(window, word_place(c, which));
@@ -84,7 +79,7 @@ fn word_where(window: &[u8], ok: bool, c: Configuration, which: Pointer) -> Word
 }
 
 // All pointers and flags; the pointers 0 and the flags clear where refused.
-pub fn look(window: &[u8], c: Configuration) -> Interface
+pub fn interface_of(window: &[u8], c: Configuration) -> Interface
     ensures { λ r. ⌜ r ≡ interfaceIn (now (window .entry)) c ⌝ }
 {
     let ok = descriptor::is_allowed(window.len(), c);
@@ -94,10 +89,10 @@ pub fn look(window: &[u8], c: Configuration) -> Interface
     let controller_second = word_where(window, ok, c, Pointer::H2bRead);
     Interface {
         flags: Flags {
-            controller_up: controller.high,
-            controller_reset: controller.low,
-            host_up: host.high,
-            host_reset: host.low,
+            controller_up: controller.bit1,
+            controller_reset: controller.bit0,
+            host_up: host.bit1,
+            host_reset: host.bit0,
         },
         b2h: Pointers {
             read: host_second.pointer,
@@ -107,19 +102,19 @@ pub fn look(window: &[u8], c: Configuration) -> Interface
             read: controller_second.pointer,
             write: host.pointer,
         },
-        host_ready: host_second.low,
-        controller_ready: controller_second.low,
+        host_ready: host_second.bit0,
+        controller_ready: controller_second.bit0,
     }
 }
 
-fn points_into(which: Pointer) -> Part
+fn points_into(which: Pointer) -> Area
     ensures { λ r. ⌜ r ≡ pointsInto which ⌝ }
 {
     match which {
-        Pointer::H2bWrite => Part::H2b,
-        Pointer::B2hRead => Part::B2h,
-        Pointer::B2hWrite => Part::B2h,
-        Pointer::H2bRead => Part::H2b,
+        Pointer::H2bWrite => Area::H2b,
+        Pointer::B2hRead => Area::B2h,
+        Pointer::B2hWrite => Area::B2h,
+        Pointer::H2bRead => Area::H2b,
     }
 }
 
@@ -130,7 +125,7 @@ fn refusal_to_store(window: usize, c: Configuration, which: Pointer, pointer: us
     if !descriptor::is_allowed(window, c) {
         return 1;
     }
-    let ring = descriptor::part_place(c, points_into(which));
+    let ring = descriptor::area_place(c, points_into(which));
     if mmbi::pointer_right(ring.length as usize, pointer) {
         0
     } else {
@@ -172,8 +167,8 @@ pub fn store_pointer(window: &mut [u8], c: Configuration, which: Pointer, pointe
             which,
             Word {
                 pointer,
-                high: held.high,
-                low: held.low,
+                bit1: held.bit1,
+                bit0: held.bit0,
             },
         );
     }

@@ -5,7 +5,7 @@ use lib.ListN.{length}
 use mathlib.Core.Path.{sym, ap, _∙_}
 use native.Mathlib.Omega.{arith}
 use Rattle.octets.proofs.Choice.{within-bounds}
-use Rattle.slots.specs.Changes.{outcomeNumber}
+use Rattle.mctp.specs.Refusals.{outcomeNumber}
 use Rattle.decision.specs.Decision.{fromPacket}
 use Rattle.decision.proofs.Checks.{packet-good, unless-good, unless-refused}
 use borrow.Author.Needs.{needs}

@@ -2,7 +2,7 @@
 -- Assumes nothing.
 use mathlib.Core.Path.{sym, ap, _∙_}
 use lib.ListN.{length-drop}
-use Rattle.slots.specs.Changes.{outcomeNumber}
+use Rattle.mctp.specs.Refusals.{outcomeNumber}
 use Rattle.decision.specs.Decision.{fromSource}
 use Rattle.decision.proofs.Checks.{unless-good, unless-refused}
 use borrow.Author.Needs.{needs}

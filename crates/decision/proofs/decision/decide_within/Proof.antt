@@ -2,7 +2,7 @@
 -- Assumes nothing.
 use mathlib.Core.Path.{sym, ap, _∙_}
 use native.Mathlib.Omega.{arith}
-use Rattle.slots.specs.Changes.{outcomeNumber}
+use Rattle.mctp.specs.Refusals.{outcomeNumber}
 use Rattle.decision.specs.Decision.{decided}
 use Rattle.slots.proofs.States.{most-bounds}
 use Rattle.decision.proofs.Checks.{setup-good, unless-good, unless-refused}

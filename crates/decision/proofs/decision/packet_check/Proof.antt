@@ -3,7 +3,7 @@
 use mathlib.Core.Path.{_≡_, sym, ap, _∙_}
 use mathlib.Core.Bool.{true, false}
 use lib.ListN.{length}
-use Rattle.mctp.specs.Packet.{packetSize, versionOf, destinationOf}
+use Rattle.mctp.specs.Packet.{sizeRight, versionOf, destinationOf}
 use Rattle.slots.specs.Setup.{oursOf}
 use borrow.Author.Tests.{not-true, not-false, eq-eqb, ne-eqb}
 use Rattle.mctp.specs.declared.packet.Header.{Header}
@@ -17,14 +17,14 @@ returns : tie.Need-returns
 unfolding packetRefusal
 returns c =
     let a = c .before .before .args in
-    let size : packetSize (a .most) (length (a .packet .now)) ≡ false = not-true _ (c .if1 .taken) in
+    let size : sizeRight (a .most) (length (a .packet .now)) ≡ false = not-true _ (c .if1 .taken) in
     rw size
 
 returns-2 : tie.Need-returns-2
 unfolding packetRefusal headerOf
 returns-2 c =
     let a = c .before .before .before .before .before .args in
-    let size : packetSize (a .most) (length (a .packet .now)) ≡ true =
+    let size : sizeRight (a .most) (length (a .packet .now)) ≡ true =
     not-false _ (c .before .before .before .if1 .left) in
     rw (size, sym (ap (λ (h : Header). h .version) (c .before .before .header-of .ensures)), ne-eqb _ _ (c .if2 .taken))
 
@@ -33,7 +33,7 @@ unfolding packetRefusal headerOf keyOf
 returns-3 c =
     let h = c .before .before .before in
     let a = h .before .before .before .before .before .args in
-    let size : packetSize (a .most) (length (a .packet .now)) ≡ true =
+    let size : sizeRight (a .most) (length (a .packet .now)) ≡ true =
     not-false _ (h .before .before .before .if1 .left) in
     let version : versionOf (a .packet .now) ≡ 1 =
     sym (ap (λ (g : Header). g .version) (h .before .before .header-of .ensures)) ∙ h .if2 .left in
@@ -47,7 +47,7 @@ unfolding packetRefusal headerOf keyOf
 returns-4 c =
     let h = c .before .before .before in
     let a = h .before .before .before .before .before .args in
-    let size : packetSize (a .most) (length (a .packet .now)) ≡ true =
+    let size : sizeRight (a .most) (length (a .packet .now)) ≡ true =
     not-false _ (h .before .before .before .if1 .left) in
     let version : versionOf (a .packet .now) ≡ 1 =
     sym (ap (λ (g : Header). g .version) (h .before .before .header-of .ensures)) ∙ h .if2 .left in

@@ -13,14 +13,14 @@ returns c = rw (ne-eqb _ _ (c .if1 .taken))
 
 returns-2 : tie.Need-returns-2
 unfolding gathered
-returns-2 c = rw (eq-eqb _ _ (c .before .before .if1 .left), sym (c .before .is-wrong .ensures) ∙ c .if2 .taken)
+returns-2 c = rw (eq-eqb _ _ (c .before .before .if1 .left), sym (c .before .wrong-unit .ensures) ∙ c .if2 .taken)
 
 returns-3 : tie.Need-returns-3
 unfolding gathered
 returns-3 c =
     rw (
       eq-eqb _ _ (c .before .before .before .if1 .left),
-      sym (c .before .before .is-wrong .ensures)
+      sym (c .before .before .wrong-unit .ensures)
           ∙ c .before .if2 .left,
       lt-ltb _ _ (c .if3 .taken),
     )
@@ -30,7 +30,7 @@ unfolding gathered
 returns-4 c =
     rw (
       eq-eqb _ _ (c .before .before .before .before .if1 .left),
-      sym (c .before .before .before .is-wrong .ensures)
+      sym (c .before .before .before .wrong-unit .ensures)
           ∙ c .before .before .if2 .left,
       le-ltb _ _ (c .before .if3 .left),
       c .state-after .ensures,

@@ -7,10 +7,10 @@ use borrow.Author.Tests.{not-true, not-false}
 use Rattle.descriptor.specs.Configuration.{allowed}
 use Rattle.descriptor.specs.Descriptor.{found}
 use Rattle.descriptor.proofs.Refusals.{refusal-9-short, refusal-9-signature, refusal-10-version, refusal-10-type}
-use Rattle.descriptor.proofs.Refusals.{refusal-10-places, refusal-none, outcome-refused, outcome-found}
+use Rattle.descriptor.proofs.Refusals.{refusal-10-places, refusal-none, described-refused, described-found}
 use mathlib.Core.Path.{sym, _∙_, ap}
 use Rattle.descriptor.proofs.Refusals.{refusal-9-short, refusal-9-signature, refusal-10-version, refusal-10-type}
-use Rattle.descriptor.proofs.Refusals.{refusal-10-places, outcome-refused}
+use Rattle.descriptor.proofs.Refusals.{refusal-10-places, described-refused}
 use borrow.Author.Needs.{needs}
 use Rattle.descriptor.proofs.reading.read_descriptor.Statement.{statement}
 use Rattle.descriptor.proofs.reading.read_descriptor.Tie as tie
@@ -23,12 +23,12 @@ held : {t r : Bool} → not t ≡ false → t ≡ r → r ≡ true
 held {t} h e = sym e ∙ not-false t h
 
 returns : tie.Need-returns
-returns c = sym (outcome-refused _ 9 (lit≤ tt) (refusal-9-short _ (c .if1 .taken)))
+returns c = sym (described-refused _ 9 (lit≤ tt) (refusal-9-short _ (c .if1 .taken)))
 
 returns-2 : tie.Need-returns-2
 returns-2 c =
     let u = c .before .before in
-    sym (outcome-refused _ 9 (lit≤ tt)
+    sym (described-refused _ 9 (lit≤ tt)
     (refusal-9-signature _ (u .if1 .left) (failed (c .if2 .taken) (c .before .has-signature .ensures))))
 
 returns-3 : tie.Need-returns-3
@@ -36,7 +36,7 @@ returns-3 c =
     let u = c .before .before in
     let v = u .before .before in
     sym
-    (outcome-refused _ 10 (lit≤ tt)
+    (described-refused _ 10 (lit≤ tt)
     (refusal-10-version _ (v .if1 .left)
     (held (u .if2 .left) (u .before .has-signature .ensures))
     (failed (c .if3 .taken) (c .before .has-version .ensures))))
@@ -47,7 +47,7 @@ returns-4 c =
     let u = t .before .before in
     let v = u .before .before in
     sym
-    (outcome-refused _ 10 (lit≤ tt)
+    (described-refused _ 10 (lit≤ tt)
     (refusal-10-type _ (v .if1 .left)
     (held (u .if2 .left) (u .before .has-signature .ensures))
     (held (t .if3 .left) (t .before .has-version .ensures))
@@ -61,7 +61,7 @@ returns-5 c =
     let u = t .before .before in
     let v = u .before .before in
     sym
-    (outcome-refused _ 10 (lit≤ tt)
+    (described-refused _ 10 (lit≤ tt)
     (refusal-10-places _ (v .if1 .left)
     (held (u .if2 .left) (u .before .has-signature .ensures))
     (held (t .if3 .left) (t .before .has-version .ensures))
@@ -77,7 +77,7 @@ returns-6 c =
     let v = u .before .before in
     ap found (k .configuration-in .ensures)
     ∙ sym
-    (outcome-found _
+    (described-found _
     (refusal-none _ (v .if1 .left)
     (held (u .if2 .left) (u .before .has-signature .ensures))
     (held (t .if3 .left) (t .before .has-version .ensures))

@@ -11,7 +11,7 @@ use native.Mathlib.Omega.{arith}
 use borrow.Author.Needs.{needs}
 use lib.Seq.{take-all}
 use Rattle.octets.specs.Bytes.{laid}
-use Rattle.octets.proofs.Laid.{laid-past, laid-turn, laid-cut}
+use Rattle.octets.proofs.Laid.{laid-past, laid-next, laid-cut}
 use Rattle.octets.proofs.copy.lay.Statement.{statement}
 use Rattle.octets.proofs.copy.lay.Tie as tie
 
@@ -62,7 +62,7 @@ loop-again c =
     let a = c .before .before .before .before .before .before .before .args in
     let l = c .before .before .loop in (
       omega arith,
-      rw (l .inv .1, add-one) (laid-turn (a .out .now) (a .at) (a .new .now) (l .i) (omega arith)),
+      rw (l .inv .1, add-one) (laid-next (a .out .now) (a .at) (a .new .now) (l .i) (omega arith)),
       simp length-set (l .inv .2),
     )
 

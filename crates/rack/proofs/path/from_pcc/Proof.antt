@@ -8,14 +8,14 @@ use Rattle.rack.proofs.path.from_pcc.Tie as tie
 returns : tie.Need-returns
 returns c =
     let told = c .before .before .enum-told .given in
-    let carried = c .before .before .before .before .carried in
+    let carried = c .before .before .before .before .read in
     let none = pcc-none _ _ _ (carried .result) (carried .ensures) (told .0 .0) (told .1) in
     rw (c .no-packet .ensures, c .before .pcc .ensures, none)
 
 returns-2 : tie.Need-returns-2
 returns-2 c =
-    let told = c .before .before .before .before .before .before .carried2 .given in
-    let carried = c .before .before .before .before .before .before .before .before .carried in
+    let told = c .before .before .before .before .before .before .carried .given in
+    let carried = c .before .before .before .before .before .before .before .before .read in
     let packet = pcc-packet _ _ _ (carried .result) (carried .ensures) (told .0 .0) (told .0 .1 .0) (told .1) in
     rw (packet, c .before .before .give .ensures, c .before .before .before .part .ensures)
 

@@ -3,7 +3,7 @@
 -- Assumes nothing.
 use native.Mathlib.Nat.{sub-zero}
 use native.Mathlib.Omega.{arith}
-use Rattle.rack.proofs.Carriers.{ring-output, ring-carries, ring-none, ring-fits, ring-front}
+use Rattle.rack.proofs.Carriers.{ring-output, ring-brings, ring-none, ring-fits, ring-front}
 use borrow.Author.Needs.{needs}
 use Rattle.rack.proofs.path.from_ring.Statement.{statement}
 use Rattle.rack.proofs.path.from_ring.Tie as tie
@@ -23,7 +23,7 @@ part-give-end c =
     let a = c .before .before .before .before .before .before .before .before .before .before .before .before .args in
     let told = c .before .before .before .taken .given in
     let fits = ring-fits _ _ _ (a .flags) _ _ (a .out .now) _ (read .result) (read .ensures) _ _ (told .1) in
-    omega (arith, read .kept .1 .1 .1 .1 .1 .0)
+    omega (arith, read .kept .1 .1 .1 .1 .0)
 
 returns-2 : tie.Need-returns-2
 returns-2 c =
@@ -31,10 +31,10 @@ returns-2 c =
     let place = c .before .before .before .before .before .before .before .before .before in
     let read = place .before .before .read in
     let a = place .before .before .before .before .before .before .before .args in
-    let carries = ring-carries _ _ _ (a .flags) _ _ (a .out .now) _ (read .result) (read .ensures) _ (told .1) in
+    let brings = ring-brings _ _ _ (a .flags) _ _ (a .out .now) _ (read .result) (read .ensures) _ (told .1) in
     let front = ring-front _ _ _ (a .flags) _ _ (a .out .now) _ (read .result) (read .ensures) _ _ (told .1) in
     let output = ring-output _ _ _ (a .flags) _ _ (a .out .now) _ (read .result) (read .ensures) in
-    (rw (carries, c .before .before .give .ensures, ← front, sub-zero (told .0 .0)), output)
+    (rw (brings, c .before .before .give .ensures, ← front, sub-zero (told .0 .0)), output)
 
 pub from-ring-spec : {M : Type 1} → statement M
 from-ring-spec =

@@ -8,7 +8,7 @@ use Rattle.rack.proofs.path.give.Tie as tie
 
 returns : tie.Need-returns
 returns c =
-    ap (ruled (c .before .before .before .before .before .before .before .args .known))
+    ap (ruled (c .before .before .before .before .before .before .before .args .beside))
     (c .before .before .before .give .ensures)
 
 pub give-spec : {M : Type 1} → statement M

@@ -1,7 +1,7 @@
 -- `receiver::giving::give_within` meets its contract: the decision, carried out.
 -- Assumes nothing.
 use mathlib.Core.Path.{ap, _∙_}
-use Rattle.receiver.specs.Step.{carried, stepOf}
+use Rattle.receiver.specs.Step.{carriedOut, stepOf}
 use borrow.Author.Needs.{needs}
 use Rattle.receiver.proofs.giving.give_within.Statement.{statement}
 use Rattle.receiver.proofs.giving.give_within.Tie as tie
@@ -11,7 +11,7 @@ unfolding stepOf
 returns c =
     let a = c .before .before .before .before .before .before .before .args in
     c .before .before .carry-out .ensures
-    ∙ ap (carried (a .receiver) (a .memory .now) (a .packet .now))
+    ∙ ap (carriedOut (a .receiver) (a .memory .now) (a .packet .now))
     (c .before .before .before .before .decide-within .ensures)
 
 pub give-within-spec : {M : Type 1} → statement M

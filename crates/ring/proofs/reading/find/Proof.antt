@@ -8,7 +8,7 @@ use borrow.Author.Tests.{not-true, not-false}
 use lib.ListN.{length}
 use Rattle.ring.specs.Numbers.{setUpRight, pointersRight, filledOf, nextOf}
 use Rattle.ring.specs.Packet.{headerAt, wholeOf}
-use Rattle.ring.specs.Turn.{turn}
+use Rattle.ring.specs.Round.{roundFrom}
 use Rattle.ring.specs.Reading.{judged}
 use Rattle.ring.proofs.Headers.{header-straight}
 use Rattle.mmbi.proofs.Pointers.{Pointer}
@@ -105,8 +105,8 @@ returns-6 c =
     (c .before .before .filled .ensures)
     ∙ ap (λ (w : ℕ). judged (a .most) (filledOf (a .configured) (a .read) (a .write)) w
     (nextOf (a .configured) (a .read) (wholeOf w))) header
-    ∙ ap (λ (n : ℕ). judged (a .most) (filledOf n (a .read) (a .write)) (headerAt (turn (a .read) (a .ring .now)))
-    (nextOf n (a .read) (wholeOf (headerAt (turn (a .read) (a .ring .now)))))) (s .same)
+    ∙ ap (λ (n : ℕ). judged (a .most) (filledOf n (a .read) (a .write)) (headerAt (roundFrom (a .read) (a .ring .now)))
+    (nextOf n (a .read) (wholeOf (headerAt (roundFrom (a .read) (a .ring .now)))))) (s .same)
     ∙ sym
     (taken-found _ _ _ _ _ _ _ (set-up (c .before .before .before .before .before .before .before .before))
     (c .before .before .before .before .before .before .before .if2 .left)

@@ -8,7 +8,7 @@ returns : tie.Need-returns
 returns c =
     let all = c .before .before in
     let state = all .before .before in
-    cc (all .read-up-to .ensures, state .may-read .ensures, state .before .state .ensures)
+    cc (all .read-within .ensures, state .may-read .ensures, state .before .state .ensures)
 
 pub read-spec : {M : Type 1} → statement M
 read-spec =

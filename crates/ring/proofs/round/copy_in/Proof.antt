@@ -8,8 +8,8 @@ use native.Mathlib.Omega.{arith}
 use lib.ListN.{length, take, drop, length-drop}
 use lib.Seq.{take-all}
 use Rattle.octets.specs.Bytes.{laid}
-use Rattle.ring.specs.Turn.{stored}
-use Rattle.ring.proofs.Turns.{stored-straight, stored-round}
+use Rattle.ring.specs.Round.{stored}
+use Rattle.ring.proofs.Rounds.{stored-straight, stored-round}
 use borrow.Author.Needs.{needs}
 use Rattle.ring.proofs.round.copy_in.Statement.{statement}
 use Rattle.ring.proofs.round.copy_in.Tie as tie

@@ -1,4 +1,4 @@
--- `ring::round::copy_out` meets its contract: what stands in one run or in two is the front of the turned ring.
+-- `ring::round::copy_out` meets its contract: what stands in one run or in two is the front of the rounded ring.
 -- Assumes nothing.
 use mathlib.Core.Path.{_≡_, ap, sym, _∙_}
 use mathlib.Core.List.{List}
@@ -9,26 +9,26 @@ use lib.ListN.{length, take, drop, length-take, length-drop}
 use lib.Seq.{take-all}
 use Rattle.octets.specs.Bytes.{laid, fronted}
 use Rattle.octets.proofs.Laid.{laid-append, laid-front}
-use Rattle.ring.specs.Turn.{turn}
-use Rattle.ring.proofs.Turns.{turn-length, taken-straight, taken-round}
+use Rattle.ring.specs.Round.{roundFrom}
+use Rattle.ring.proofs.Rounds.{round-length, taken-straight, taken-round}
 use borrow.Author.Needs.{needs}
 use Rattle.ring.proofs.round.copy_out.Statement.{statement}
 use Rattle.ring.proofs.round.copy_out.Tie as tie
 
 module _ (ring : List ℕ) (at n : ℕ) (out : List ℕ) where
-  to-front : n ≤ length ring → n ≤ length out → laid out 0 (take n (turn at ring)) ≡ fronted out (take n (turn at ring))
+  to-front : n ≤ length ring → n ≤ length out → laid out 0 (take n (roundFrom at ring)) ≡ fronted out (take n (roundFrom at ring))
   to-front h k =
-      laid-front out (take n (turn at ring)) (omega (arith, length-take n (turn at ring), turn-length at ring))
+      laid-front out (take n (roundFrom at ring)) (omega (arith, length-take n (roundFrom at ring), round-length at ring))
 
   one-run : at + n ≤ length ring → n ≤ length out
-      → laid out 0 (take (at + n - at) (drop at ring)) ≡ fronted out (take n (turn at ring))
+      → laid out 0 (take (at + n - at) (drop at ring)) ≡ fronted out (take n (roundFrom at ring))
   one-run h k =
       rw (add-sub-cancel-left at n)
       (ap (laid out 0) (sym (taken-straight ring at n h)) ∙ to-front (omega arith) k)
 
   two-runs : at ≤ length ring → n ≤ length ring → n ≤ length out → length ring < at + n
       → laid (laid out 0 (take (length ring - at) (drop at ring))) (length ring - at)
-      (take (n - (length ring - at) - 0) (drop 0 ring)) ≡ fronted out (take n (turn at ring))
+      (take (n - (length ring - at) - 0) (drop 0 ring)) ≡ fronted out (take n (roundFrom at ring))
   two-runs h k l over =
       let whole : take (length ring - at) (drop at ring) ≡ drop at ring =
       take-all (length ring - at) (drop at ring) (omega (arith, length-drop at ring)) in

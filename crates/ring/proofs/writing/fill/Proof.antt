@@ -10,10 +10,10 @@ use Rattle.octets.specs.Bytes.{laid}
 use Rattle.octets.specs.Words.{highFirst, wordBytes}
 use Rattle.ring.specs.Numbers.{nextOf}
 use Rattle.ring.specs.Packet.{paddingFor, wholeFor, headerFor, ringBytes}
-use Rattle.ring.specs.Turn.{stored}
+use Rattle.ring.specs.Round.{stored}
 use Rattle.ring.proofs.Numbers.{next-below}
 use Rattle.ring.proofs.Headers.{word-length}
-use Rattle.ring.proofs.Turns.{stored-straight, stored-stored}
+use Rattle.ring.proofs.Rounds.{stored-straight, stored-stored}
 use borrow.Author.Needs.{needs}
 use Rattle.ring.proofs.writing.fill.Statement.{statement}
 use Rattle.ring.proofs.writing.fill.Tie as tie

@@ -6,7 +6,7 @@ use Prim.Native.Nat.{ℕ, _+_, _≤_}
 use native.Mathlib.Omega.{arith}
 use borrow.Author.Tests.{not-true, not-false}
 use Rattle.octets.proofs.Choice.{within-bounds}
-use Rattle.mctp.specs.Packet.{packetSize}
+use Rattle.mctp.specs.Packet.{sizeRight}
 use Rattle.ring.specs.Numbers.{setUpRight, pointersRight, nextOf}
 use Rattle.ring.specs.Writing.{written}
 use Rattle.mmbi.proofs.Pointers.{Pointer}
@@ -27,7 +27,7 @@ known : (c : tie.Else1) → SetUp (c .before .before .args .most) (c .before .be
 known c = let a = c .before .before .args in set-up-facts (a .most) (a .configured) (a .lent) (set-up c)
 
 -- past the second the packet's size is
-sized : (c : tie.Else2) → packetSize (c .before .before .before .before .args .most)
+sized : (c : tie.Else2) → sizeRight (c .before .before .before .before .args .most)
     (c .before .before .before .before .args .size) ≡ true
 sized c = sym (c .before .size-right .ensures) ∙ not-false _ (c .if2 .left)
 
@@ -52,9 +52,6 @@ pointed c =
 
 returns : tie.Need-returns
 returns c = sym (put-1 _ _ _ _ _ _ _ (sym (c .before .set-up-right .ensures) ∙ not-true _ (c .if1 .taken)))
-
-size-right-requires : tie.Need-size-right-requires
-size-right-requires c κs = known c .high
 
 returns-2 : tie.Need-returns-2
 returns-2 c =
@@ -129,7 +126,7 @@ judge-spec =
     (tie.spec
     (λ c κs. search needs)
     returns
-    size-right-requires
+    (λ c κs. search needs)
     returns-2
     returns-3
     (λ c κs. search needs)

@@ -8,7 +8,7 @@ returns : tie.Need-returns
 returns c =
     let all = c .before .before in
     let state = all .before .before in
-    cc (all .write-up-to .ensures, state .may-write .ensures, state .before .state .ensures)
+    cc (all .write-within .ensures, state .may-write .ensures, state .before .state .ensures)
 
 pub write-spec : {M : Type 1} → statement M
 write-spec =

@@ -8,12 +8,12 @@ use Rattle.smbus.proofs.reading.packet.Tie as tie
 
 returns : tie.Need-returns
 returns c =
-    c .part .ensures ∙ sym (told-packet _ _ _ _ (c .before .before .before .carried .ensures) _
+    c .part .ensures ∙ sym (told-packet _ _ _ _ (c .before .before .before .read .ensures) _
     (c .before .enum-told .given .1))
 
 returns-2 : tie.Need-returns-2
 returns-2 c =
-    sym (told-no-packet _ _ _ _ (c .before .before .before .carried .ensures) _ (c .before .enum-told2 .given .1))
+    sym (told-no-packet _ _ _ _ (c .before .before .before .read .ensures) _ (c .before .enum-told2 .given .1))
 
 pub packet-spec : {M : Type 1} → statement M
 packet-spec =

@@ -7,11 +7,11 @@ use Rattle.smbus.proofs.reading.refusal.Statement.{statement}
 use Rattle.smbus.proofs.reading.refusal.Tie as tie
 
 returns : tie.Need-returns
-returns c = sym (told-good _ _ _ _ (c .before .before .carried .ensures) _ (c .enum-told .given .1))
+returns c = sym (told-good _ _ _ _ (c .before .before .read .ensures) _ (c .enum-told .given .1))
 
 returns-2 : tie.Need-returns-2
 returns-2 c =
-    c .number .ensures ∙ sym (told-number _ _ _ _ (c .before .before .before .before .carried .ensures) _
+    c .number .ensures ∙ sym (told-number _ _ _ _ (c .before .before .before .before .read .ensures) _
     (c .before .before .found .given .1))
 
 pub refusal-spec : {M : Type 1} → statement M

@@ -8,7 +8,7 @@ use native.Mathlib.Omega.{arith}
 use lib.ListN.{length, take, length-set}
 use Rattle.octets.specs.Bytes.{laid}
 use Rattle.transcript.specs.Front.{between}
-use Rattle.transcript.proofs.Fronts.{between-size, moved-none, moved-all, moved-turn}
+use Rattle.transcript.proofs.Fronts.{between-size, moved-none, moved-all, moved-next}
 use Rattle.transcript.proofs.front.to_front.Statement.{statement}
 use Rattle.transcript.proofs.front.to_front.Tie as tie
 
@@ -52,7 +52,7 @@ loop-again c =
     let l = c .before .before .loop in
     let a = c .before .before .before .before .before .before .args in (
       omega arith,
-      rw (l .inv .1, add-one) (moved-turn (a .bytes .now) (a .from) (a .end) (l .i) (omega arith)),
+      rw (l .inv .1, add-one) (moved-next (a .bytes .now) (a .from) (a .end) (l .i) (omega arith)),
       rw length-set (l .inv .2),
     )
 

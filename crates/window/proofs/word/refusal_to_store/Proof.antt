@@ -21,7 +21,7 @@ returns-2 c =
           ∙ not-false _ (asked .if1 .left),
       sym (place .before .points-into .ensures),
       sym
-          (place .part-place .ensures),
+          (place .area-place .ensures),
       sym (c .before .pointer-right .ensures) ∙ c .if2 .taken,
     )
 
@@ -35,7 +35,7 @@ returns-3 c =
           ∙ not-false _ (asked .if1 .left),
       sym (place .before .points-into .ensures),
       sym
-          (place .part-place .ensures),
+          (place .area-place .ensures),
       sym (c .before .pointer-right .ensures) ∙ c .if2 .left,
     )
 

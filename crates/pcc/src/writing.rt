@@ -1,0 +1,85 @@
+// A packet written to a region's front.
+use crate::answer::Written;
+use crate::region::COMMAND;
+use crate::region::SIGNATURE;
+use crate::region::body_right;
+use mctp::LARGEST_BODY;
+use mctp::Refusal;
+ghost use mathlib.Core.Path.{_≡_};
+ghost use Prim.Native.Nat.{_+_, _≤_};
+ghost use lib.ListN.{length};
+ghost use Rattle.octets.specs.Bytes.{fronted};
+ghost use Rattle.pcc.specs.Region.{flagsOf, regionOf, roomFor};
+ghost use Rattle.pcc.specs.Writing.{writeRefusal, writtenOf};
+ghost use Rattle.pcc.specs.Answers.{numberWritten};
+
+// The packet written under this id; where refused the region stays as it was.
+pub fn write(region: &mut [u8], id: u32, notify: bool, packet: &[u8]) -> Written
+    ensures { λ r. ⌜ numberWritten r ≡ writeRefusal 64 (length (now (region .entry))) id
+        (length (now (packet .entry))) ⌝ }
+    ensures { λ _. ⌜ now (region .exit) ≡ writtenOf 64 (now (region .entry)) id notify (now (packet .entry)) ⌝ }
+{
+    write_within(LARGEST_BODY, region, id, notify, packet)
+}
+
+fn write_within(most: usize, region: &mut [u8], id: u32, notify: bool, packet: &[u8]) -> Written
+    ensures { λ r. ⌜ numberWritten r ≡ writeRefusal most (length (now (region .entry))) id
+        (length (now (packet .entry))) ⌝ }
+    ensures { λ _. ⌜ now (region .exit) ≡ writtenOf most (now (region .entry)) id notify (now (packet .entry)) ⌝ }
+{
+    let allowed = may_write(most, region.len(), id, packet.len());
+    match allowed {
+        Written::Whole => {
+            fill(region, id, notify, packet);
+            Written::Whole
+        }
+        Written::Refused(why) => Written::Refused(why),
+    }
+}
+
+// Whether a packet of this size may be written: by the lengths and the id alone.
+fn may_write(most: usize, room: usize, id: u32, size: usize) -> Written
+    ensures { λ r. ⌜ numberWritten r ≡ writeRefusal most room id size ⌝ }
+{
+    if !body_right(most) {
+        return Written::Refused(Refusal::Setup);
+    }
+    if 255 < id {
+        return Written::Refused(Refusal::Setup);
+    }
+    if size < 5 {
+        return Written::Refused(Refusal::Size);
+    }
+    if 4 + most < size {
+        return Written::Refused(Refusal::Size);
+    }
+    if room < room_for(size) {
+        return Written::Refused(Refusal::Room);
+    }
+    Written::Whole
+}
+
+fn room_for(size: usize) -> usize
+    requires { ⌜ size ≤ 250 ⌝ }
+    ensures { λ r. ⌜ r ≡ roomFor size ⌝ }
+{
+    if 16 + size < 84 { 84 } else { 16 + size }
+}
+
+// The four words and the packet, one after the other.
+fn fill(region: &mut [u8], id: u32, notify: bool, packet: &[u8])
+    requires { ⌜ (id ≤ 255) × (length (now packet) ≤ 250) × (16 + length (now packet) ≤ length (now region)) ⌝ }
+    ensures { λ _. ⌜ now (region .exit) ≡ fronted (now (region .entry)) (regionOf id notify (now (packet .entry))) ⌝ }
+{
+    octets::lay_low_first(region, 0, SIGNATURE + id);
+    octets::lay_low_first(region, 4, flags(notify));
+    octets::lay_low_first(region, 8, (4 + packet.len()) as u32);
+    octets::lay_low_first(region, 12, COMMAND);
+    octets::lay(region, 16, packet);
+}
+
+fn flags(notify: bool) -> u32
+    ensures { λ r. ⌜ r ≡ flagsOf notify ⌝ }
+{
+    if notify { 1 } else { 0 }
+}
