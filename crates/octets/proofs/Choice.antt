@@ -12,6 +12,12 @@ use Rattle.octets.specs.Choice.{pick, within}
 pub determined : {A : Type 0} {x a b : A} → a ≡ x → b ≡ x → a ≡ b
 determined p q = p ∙ sym q
 
+-- what holds of both answers of a choice, each where its test says so, holds of the choice
+pub pick-elim : {A : Type 0} (P : A → Type 0) (t : Bool) (x y : A) → (t ≡ true → P x) → (t ≡ false → P y)
+    → P (pick t x y)
+pick-elim P true x y f g = f refl
+pick-elim P false x y f g = g refl
+
 -- a check order that ends in 0 went past this check
 pub passed : (t : Bool) (n x : ℕ) → pick t (suc n) x ≡ 0 → (t ≡ false) × (x ≡ 0)
 passed true n x e = absurd (suc-ne-zero n e)

@@ -1,4 +1,5 @@
 pub mod Laid
+pub mod Parts
 pub mod Words
 pub mod Choice
 pub mod Checks
