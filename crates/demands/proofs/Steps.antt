@@ -21,7 +21,7 @@ use Rattle.decision.specs.Rules.{after, onStart, gathered, onFollow, ruled}
 use Rattle.decision.specs.Decision.{fromSource, fromPacket, decided}
 use Rattle.receiver.specs.Step.{refused, held, stepOf}
 use Rattle.messages.specs.Run.{give, free}
-use Rattle.messages.specs.Message.{Item, part, between, Starts, Middles, OneMessage, slotFor}
+use Rattle.messages.specs.Message.{Item, packet, between, Starts, Middles, OneMessage, slotFor}
 use Rattle.demands.specs.Numbers.{card, empty, packetWith}
 
 -- a receiver with another EID
@@ -48,7 +48,7 @@ gathering =
 abbrev pub middles : List Item
 middles =
     between (give (packetWith 0x80 1 7))
-    ∷ part (packetWith 0x0D 64 2)
+    ∷ packet (packetWith 0x0D 64 2)
     ∷ between (give [])
     ∷ between (free 3)
     ∷ []

@@ -26,7 +26,7 @@ use Rattle.decision.proofs.Picked.{pick-elim}
 use Rattle.receiver.specs.Step.{Said, done, Left, stepOf}
 use Rattle.receiver.proofs.Laws.{one-slot}
 use Rattle.messages.specs.Run.{Call, give, free, rules, message, messagesOf, Ran, called, joined, run}
-use Rattle.messages.specs.Message.{Item, part, between, callsOf, bodiesOf, lastOf, partReplies, heldReplies}
+use Rattle.messages.specs.Message.{Item, packet, between, callsOf, bodiesOf, lastOf, packetReplies, heldReplies}
 use Rattle.messages.specs.Message.{slotFor, Starts, Follows, Middles, OneMessage, Accepted, AcceptedAlone}
 use Rattle.messages.proofs.Runs.{run-append, called-one-slot}
 use Rattle.messages.proofs.Gathering.{Gathers, middle-step, middle-gathers, end-step, end-message}
@@ -49,7 +49,7 @@ module _ (most : ℕ) (k : Key) (i unit : ℕ) where
       (lastOf last items) unit (sofar ++ bodiesOf items)
   unfolding run Middles
   middles-gather r m last sofar [] G M = rw append-nil G
-  middles-gather r m last sofar (part p ∷ items) G M =
+  middles-gather r m last sofar (packet p ∷ items) G M =
       let grown = middle-gathers most r m k i last unit sofar G p (M .0) (M .1) in
       let rest = rw (sym (length-append sofar (bodyOf p))) at (M .2) in
       rw (sym (append-assoc sofar (bodyOf p) (bodiesOf items)))
@@ -63,10 +63,10 @@ module _ (most : ℕ) (k : Key) (i unit : ℕ) where
   pub middles-held : (r : Receiver) (m : List ℕ) (last : ℕ) (sofar : List ℕ) (items : List Item)
       → Gathers most r m k i last unit sofar
       → Middles most k i r m last unit (length sofar) items
-      → partReplies items (run most r m (callsOf items) .answers) ≡ heldReplies i (length sofar) items
+      → packetReplies items (run most r m (callsOf items) .answers) ≡ heldReplies i (length sofar) items
   unfolding run Middles
   middles-held r m last sofar [] G M = refl
-  middles-held r m last sofar (part p ∷ items) G M =
+  middles-held r m last sofar (packet p ∷ items) G M =
       let grown = middle-gathers most r m k i last unit sofar G p (M .0) (M .1) in
       let rest = rw (sym (length-append sofar (bodyOf p))) at (M .2) in
       let said = ap (λ (l : Left). rules (l .said)) (middle-step most r m k i last unit sofar G p (M .0) (M .1)) in

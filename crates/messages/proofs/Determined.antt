@@ -4,7 +4,7 @@ use mathlib.Core.Path.{_≡_}
 use contract.Lifetimes.{Lfts}
 use denote.Ref.{now}
 use Rattle.octets.proofs.Choice.{determined}
-use Rattle.messages.proofs.part.message.Reads as message
+use Rattle.messages.proofs.memory.message.Reads as message
 
 -- Where the part lies is not said.
 pub message-determined : (κs : Lfts 1) (a r q e f : _) → message.Post κs a r e → message.Post κs a q f → now r ≡ now q

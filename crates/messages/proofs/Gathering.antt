@@ -34,7 +34,7 @@ use Rattle.decision.proofs.Checks.{packet-good, unless-good}
 use Rattle.decision.proofs.Cases.{ruled-start, ruled-follow}
 use Rattle.decision.proofs.Decided.{every-decision}
 use Rattle.receiver.specs.Step.{refused, held, done, Left, carriedOut, stepOf}
-use Rattle.receiver.proofs.Laid.{part-grown}
+use Rattle.octets.proofs.Parts.{part-grown}
 use Rattle.receiver.proofs.Laws.{step-right, one-slot, refused-unchanged}
 use Rattle.messages.specs.Run.{Call, give, free, message, called}
 use Rattle.messages.specs.Message.{Starts, Follows, Harmless, slotFor}

@@ -27,7 +27,8 @@ use Rattle.decision.proofs.Picked.{pick-elim}
 use Rattle.decision.proofs.Decided.{every-decision}
 use Rattle.receiver.specs.Step.{answerOf, carriedOut, stepOf}
 use Rattle.receiver.specs.Effects.{OneSlot}
-use Rattle.receiver.proofs.Laid.{laid-before, laid-behind, part-same}
+use Rattle.octets.proofs.Laid.{laid-before, laid-behind}
+use Rattle.octets.proofs.Parts.{part-same}
 use Rattle.receiver.proofs.Laws.{step-right, one-slot}
 use Rattle.messages.specs.Run.{Call, give, free, message, Ran, called, joined, run, intoSlot, untouched}
 

@@ -11,7 +11,7 @@ use Rattle.slots.proofs.free.Reads as freeing
 use Rattle.receiver.specs.Step.{done, left}
 use Rattle.receiver.proofs.give.Reads as giving
 use Rattle.messages.specs.Run.{give, free, messagesOf, ofStep, ofFreed, called}
-use Rattle.messages.proofs.part.message.Reads as message
+use Rattle.messages.proofs.memory.message.Reads as message
 
 -- `receiver::give`
 pub give-is-called : (κs : Lfts 2) (a r e : _) → giving.Post κs a r e

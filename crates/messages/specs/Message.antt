@@ -24,40 +24,40 @@ use Rattle.messages.specs.Run.{Call, give, free, Reply, rules, Ran, call
 
 -- one thing after the other in a list of calls: a packet of the message, or a call that stands between
 pub data Item : Type 0 where
-  part : List ℕ → Item
+  packet : List ℕ → Item
   between : Call → Item
 
 abbrev pub callOf : Item → Call
-callOf (part p) = give p
+callOf (packet p) = give p
 callOf (between c) = c
 
 abbrev pub callsOf : List Item → List Call
 callsOf items = map callOf items
 
--- the bodies of the parts, joined in order
+-- the bodies of the message's packets, joined in order
 abbrev pub bodiesOf : List Item → List ℕ
 bodiesOf [] = []
-bodiesOf (part p ∷ items) = bodyOf p ++ bodiesOf items
+bodiesOf (packet p ∷ items) = bodyOf p ++ bodiesOf items
 bodiesOf (between c ∷ items) = bodiesOf items
 
--- the last part's sequence; where there is none, the one before
+-- the last packet's sequence; where there is none, the one before
 abbrev pub lastOf : ℕ → List Item → ℕ
 lastOf last [] = last
-lastOf last (part p ∷ items) = lastOf (sequenceOf p) items
+lastOf last (packet p ∷ items) = lastOf (sequenceOf p) items
 lastOf last (between c ∷ items) = lastOf last items
 
--- the answers at the parts' places
-abbrev pub partReplies : List Item → List Reply → List Reply
-partReplies [] answers = []
-partReplies (part p ∷ items) [] = []
-partReplies (part p ∷ items) (a ∷ answers) = a ∷ partReplies items answers
-partReplies (between c ∷ items) [] = []
-partReplies (between c ∷ items) (a ∷ answers) = partReplies items answers
+-- the answers at the packets' places
+abbrev pub packetReplies : List Item → List Reply → List Reply
+packetReplies [] answers = []
+packetReplies (packet p ∷ items) [] = []
+packetReplies (packet p ∷ items) (a ∷ answers) = a ∷ packetReplies items answers
+packetReplies (between c ∷ items) [] = []
+packetReplies (between c ∷ items) (a ∷ answers) = packetReplies items answers
 
 -- "Without end: held, with slot and bytes held": the sum of the bodies so far, n of them before these items
 abbrev pub heldReplies : ℕ → ℕ → List Item → List Reply
 heldReplies slot n [] = []
-heldReplies slot n (part p ∷ items) =
+heldReplies slot n (packet p ∷ items) =
     rules (held slot (n + length (bodyOf p)) false) ∷ heldReplies slot (n + length (bodyOf p)) items
 heldReplies slot n (between c ∷ items) = heldReplies slot n items
 
@@ -94,7 +94,7 @@ Harmless most r m k slot (free i) = i ≡ slot → ⊥
 -- left
 unfoldable pub Middles : ℕ → Key → ℕ → Receiver → List ℕ → ℕ → ℕ → ℕ → List Item → Type 0
 Middles most k slot r m last unit n [] = Unit
-Middles most k slot r m last unit n (part p ∷ items) =
+Middles most k slot r m last unit n (packet p ∷ items) =
     Follows most (r .setup) k last unit n p
     × (endOf p ≡ false)
     × Middles most k slot (called most r m (give p) .receiver) (called most r m (give p) .memory) (sequenceOf p) unit
@@ -125,7 +125,7 @@ pub record Accepted (r : Receiver) (first : List ℕ) (items : List Item) (final
       ≡ rules (held i (length (bodyOf first)) (ltb (slotOf (r .slots) (keyOf first)) 4)) ∷
       (middle .answers ++ (rules (done i (length (bodyOf first ++ bodiesOf items) + length (bodyOf final)) false)
       ∷ []))
-  pub held-so-far : partReplies items (middle .answers) ≡ heldReplies i (length (bodyOf first)) items
+  pub held-so-far : packetReplies items (middle .answers) ≡ heldReplies i (length (bodyOf first)) items
   pub messages : whole .messages ≡ middle .messages ++ (((bodyOf first ++ bodiesOf items) ++ bodyOf final) ∷ [])
   pub slot-free : slotAt (whole .receiver .slots) i ≡ Free
 

@@ -1,4 +1,4 @@
 // A message that a receiver has put together, read out of the message memory.
-mod part;
+mod memory;
 
-pub use part::message;
+pub use memory::message;

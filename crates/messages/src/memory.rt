@@ -6,13 +6,5 @@ ghost use Rattle.messages.specs.Run.{message};
 pub fn message(memory: &[u8], slot: u8, length: usize) -> &[u8]
     ensures { λ r. ⌜ now r ≡ message (now (memory .entry)) slot length ⌝ }
 {
-    let start = 1024 * (slot as usize);
-    let size = memory.len();
-    if size <= start {
-        return &memory[0..0];
-    }
-    if size - start < length {
-        return &memory[start..];
-    }
-    &memory[start..start + length]
+    octets::part(memory, 1024 * (slot as usize), length)
 }
