@@ -74,9 +74,13 @@ after-end p unit n e = ap (λ (b : Bool). pick b Free (Gathering (keyOf p) (sequ
 module _ (most : ℕ) (r : Receiver) (m : List ℕ) (k : Key) (i last unit : ℕ) (sofar : List ℕ)
     (G : Gathers most r m k i last unit sofar)
     (p : List ℕ) (F : Follows most (r .setup) k last unit (length sofar) p) where
+  -- how many bytes are held with this packet's
+  abbrev total : ℕ
+  total = length sofar + length (bodyOf p)
+
   -- the packet's body is appended
   gathered-put : gathered i last unit (length sofar) (headerOf p) (length (bodyOf p))
-      ≡ put i (length sofar) false (after (headerOf p) unit (length sofar + length (bodyOf p)))
+      ≡ put i (length sofar) false (after (headerOf p) unit total)
   unfolding gathered headerOf
   gathered-put = rw (eq-eqb _ _ (F .sequence), F .size, le-ltb _ _ (F .room))
 
@@ -92,7 +96,7 @@ module _ (most : ℕ) (r : Receiver) (m : List ℕ) (k : Key) (i last unit : ℕ
   starts-not = F .not-start
 
   appended : decided most r (length m) p
-      ≡ put i (length sofar) false (after (headerOf p) unit (length sofar + length (bodyOf p)))
+      ≡ put i (length sofar) false (after (headerOf p) unit total)
   unfolding onFollow
   appended =
       decided-rules most r (length m) p (setup-passes most r m (G .right) (G .memory)) (F .checked) (F .source)
@@ -101,7 +105,7 @@ module _ (most : ℕ) (r : Receiver) (m : List ℕ) (k : Key) (i last unit : ℕ
       ∙ ap (λ (s : SlotState). follow i s (headerOf p) (length (bodyOf p))) (G .state)
       ∙ gathered-put
 
-  grown : message (laid m (1024 * i + length sofar) (bodyOf p)) i (length sofar + length (bodyOf p)) ≡ sofar ++ bodyOf p
+  grown : message (laid m (1024 * i + length sofar) (bodyOf p)) i total ≡ sofar ++ bodyOf p
   grown =
       part-grown m (1024 * i) (length sofar) (bodyOf p) (omega (arith, G .memory, G .slot, F .room))
       ∙ ap (λ (s : List ℕ). s ++ bodyOf p) (G .bytes)
@@ -109,47 +113,47 @@ module _ (most : ℕ) (r : Receiver) (m : List ℕ) (k : Key) (i last unit : ℕ
   -- a middle: held, with the sum of the bodies so far
   pub middle-step : endOf p ≡ false → stepOf most r m p
       ≡ record {
-        said = held i (length sofar + length (bodyOf p)) false;
-        receiver = withState r i (Gathering k (sequenceOf p) unit (length sofar + length (bodyOf p)));
+        said = held i total false;
+        receiver = withState r i (Gathering k (sequenceOf p) unit total);
         memory = laid m (1024 * i + length sofar) (bodyOf p);
       }
   unfolding stepOf
   middle-step e =
-      let then = after-middle p unit (length sofar + length (bodyOf p)) e
-      ∙ ap (λ (j : Key). Gathering j (sequenceOf p) unit (length sofar + length (bodyOf p))) (F .key) in
+      let then = after-middle p unit total e
+      ∙ ap (λ (j : Key). Gathering j (sequenceOf p) unit total) (F .key) in
       ap (carriedOut r m p) (appended ∙ ap (put i (length sofar) false) then)
 
   -- an end: done, with their total, and the slot is free
   pub end-step : endOf p ≡ true → stepOf most r m p
       ≡ record {
-        said = done i (length sofar + length (bodyOf p)) false;
+        said = done i total false;
         receiver = withState r i Free;
         memory = laid m (1024 * i + length sofar) (bodyOf p);
       }
   unfolding stepOf
   end-step e =
       ap (carriedOut r m p) (appended ∙ ap (put i (length sofar) false)
-      (after-end p unit (length sofar + length (bodyOf p)) e))
+      (after-end p unit total e))
 
   -- the bytes of the message that is done: the bodies joined, in order
   pub end-message : endOf p ≡ true
-      → message (stepOf most r m p .memory) i (length sofar + length (bodyOf p)) ≡ sofar ++ bodyOf p
-  end-message e = ap (λ (l : Left). message (l .memory) i (length sofar + length (bodyOf p))) (end-step e) ∙ grown
+      → message (stepOf most r m p .memory) i total ≡ sofar ++ bodyOf p
+  end-message e = ap (λ (l : Left). message (l .memory) i total) (end-step e) ∙ grown
 
   pub middle-gathers : endOf p ≡ false
       → Gathers most (stepOf most r m p .receiver) (stepOf most r m p .memory) k i (sequenceOf p) unit
       (sofar ++ bodyOf p)
   middle-gathers e =
-      let total : length (sofar ++ bodyOf p) ≡ length sofar + length (bodyOf p) = length-append sofar (bodyOf p) in
+      let joined : length (sofar ++ bodyOf p) ≡ total = length-append sofar (bodyOf p) in
       record {
         right = step-right most r m p (G .right);
         memory = one-slot most r m p .size ∙ G .memory;
         slot = G .slot;
         state = ap (λ (l : Left). slotAt (l .receiver .slots) i) (middle-step e)
             ∙ slot-same (r .slots) i _ (omega (arith, G .slot, right-of most r (G .right) .four))
-            ∙ ap (Gathering k (sequenceOf p) unit) (sym total);
-        bytes = ap (message (stepOf most r m p .memory) i) total
-            ∙ ap (λ (l : Left). message (l .memory) i (length sofar + length (bodyOf p))) (middle-step e)
+            ∙ ap (Gathering k (sequenceOf p) unit) (sym joined);
+        bytes = ap (message (stepOf most r m p .memory) i) joined
+            ∙ ap (λ (l : Left). message (l .memory) i total) (middle-step e)
             ∙ grown;
       }
 
@@ -224,17 +228,27 @@ start-put false x y then h = rw (lt-ltb y 4 h)
 module _ (most : ℕ) (r : Receiver) (m p : List ℕ) (right : rightState most r ≡ true) (size : length m ≡ 4096)
     (S : Starts most (r .setup) p)
     (room : slotFor (r .slots) (keyOf p) < 4) where
+  -- its slot, whether its key had it, and the body's size
+  abbrev i : ℕ
+  i = slotFor (r .slots) (keyOf p)
+
+  abbrev again : Bool
+  again = ltb (slotOf (r .slots) (keyOf p)) 4
+
+  abbrev n : ℕ
+  n = length (bodyOf p)
+
   begun : decided most r (length m) p
-      ≡ put (slotFor (r .slots) (keyOf p)) 0 (ltb (slotOf (r .slots) (keyOf p)) 4)
-      (after (headerOf p) (length (bodyOf p)) (length (bodyOf p)))
+      ≡ put i 0 again
+      (after (headerOf p) n n)
   unfolding onStart slotFor headerOf
   begun =
       decided-rules most r (length m) p (setup-passes most r m right size) (S .checked) (S .source)
-      ∙ ruled-start (r .slots) (headerOf p) (length (bodyOf p)) (S .start)
-      ∙ start-put (ltb (slotOf (r .slots) (keyOf p)) 4) (slotOf (r .slots) (keyOf p)) (lowestFree (r .slots) 0 4)
-      (after (headerOf p) (length (bodyOf p)) (length (bodyOf p))) room
+      ∙ ruled-start (r .slots) (headerOf p) n (S .start)
+      ∙ start-put again (slotOf (r .slots) (keyOf p)) (lowestFree (r .slots) 0 4)
+      (after (headerOf p) n n) room
 
-  body-fits : length (bodyOf p) ≤ 1024
+  body-fits : n ≤ 1024
   body-fits =
       omega (
         arith,
@@ -243,69 +257,64 @@ module _ (most : ℕ) (r : Receiver) (m p : List ℕ) (right : rightState most r
         most-bounds most r right,
       )
 
-  laid-first : message (laid m (1024 * slotFor (r .slots) (keyOf p) + 0) (bodyOf p)) (slotFor (r .slots) (keyOf p))
-      (length (bodyOf p)) ≡ bodyOf p
+  laid-first : message (laid m (1024 * i + 0) (bodyOf p)) i
+      n ≡ bodyOf p
   laid-first =
-      let i = slotFor (r .slots) (keyOf p) in
-      rw (sym (zero-add (length (bodyOf p))))
+      rw (sym (zero-add n))
       (part-grown m (1024 * i) 0 (bodyOf p) (omega (arith, size, room, body-fits)))
 
   -- "its body goes to the slot's front": held, or done where it is the end too; "again" exactly if its key had a slot
   pub start-held : endOf p ≡ false → stepOf most r m p
       ≡ record {
-        said = held (slotFor (r .slots) (keyOf p)) (length (bodyOf p)) (ltb (slotOf (r .slots) (keyOf p)) 4);
+        said = held i n again;
         receiver =
-            withState r (slotFor (r .slots) (keyOf p))
-            (Gathering (keyOf p) (sequenceOf p) (length (bodyOf p)) (length (bodyOf p)));
-        memory = laid m (1024 * slotFor (r .slots) (keyOf p) + 0) (bodyOf p);
+            withState r i
+            (Gathering (keyOf p) (sequenceOf p) n n);
+        memory = laid m (1024 * i + 0) (bodyOf p);
       }
   unfolding stepOf
   start-held e =
-      let i = slotFor (r .slots) (keyOf p) in
-      let again = ltb (slotOf (r .slots) (keyOf p)) 4 in
-      ap (carriedOut r m p) (begun ∙ ap (put i 0 again) (after-middle p (length (bodyOf p)) (length (bodyOf p)) e))
-      ∙ ap (λ (n : ℕ). record {
-        said = held i n again;
-        receiver = withState r i (Gathering (keyOf p) (sequenceOf p) (length (bodyOf p)) (length (bodyOf p)));
+      ap (carriedOut r m p) (begun ∙ ap (put i 0 again) (after-middle p n n e))
+      ∙ ap (λ (bytes : ℕ). record {
+        said = held i bytes again;
+        receiver = withState r i (Gathering (keyOf p) (sequenceOf p) n n);
         memory = laid m (1024 * i + 0) (bodyOf p);
-      }) (zero-add (length (bodyOf p)))
+      }) (zero-add n)
 
   pub start-done : endOf p ≡ true → stepOf most r m p
       ≡ record {
-        said = done (slotFor (r .slots) (keyOf p)) (length (bodyOf p)) (ltb (slotOf (r .slots) (keyOf p)) 4);
-        receiver = withState r (slotFor (r .slots) (keyOf p)) Free;
-        memory = laid m (1024 * slotFor (r .slots) (keyOf p) + 0) (bodyOf p);
-      }
-  unfolding stepOf
-  start-done e =
-      let i = slotFor (r .slots) (keyOf p) in
-      let again = ltb (slotOf (r .slots) (keyOf p)) 4 in
-      ap (carriedOut r m p) (begun ∙ ap (put i 0 again) (after-end p (length (bodyOf p)) (length (bodyOf p)) e))
-      ∙ ap (λ (n : ℕ). record {
         said = done i n again;
         receiver = withState r i Free;
         memory = laid m (1024 * i + 0) (bodyOf p);
-      }) (zero-add (length (bodyOf p)))
+      }
+  unfolding stepOf
+  start-done e =
+      ap (carriedOut r m p) (begun ∙ ap (put i 0 again) (after-end p n n e))
+      ∙ ap (λ (bytes : ℕ). record {
+        said = done i bytes again;
+        receiver = withState r i Free;
+        memory = laid m (1024 * i + 0) (bodyOf p);
+      }) (zero-add n)
 
   pub start-message : endOf p ≡ true
-      → message (stepOf most r m p .memory) (slotFor (r .slots) (keyOf p)) (length (bodyOf p)) ≡ bodyOf p
+      → message (stepOf most r m p .memory) i n ≡ bodyOf p
   start-message e =
-      ap (λ (l : Left). message (l .memory) (slotFor (r .slots) (keyOf p)) (length (bodyOf p))) (start-done e)
+      ap (λ (l : Left). message (l .memory) i n) (start-done e)
       ∙ laid-first
 
   pub start-gathers : endOf p ≡ false
-      → Gathers most (stepOf most r m p .receiver) (stepOf most r m p .memory) (keyOf p) (slotFor (r .slots) (keyOf p))
-      (sequenceOf p) (length (bodyOf p)) (bodyOf p)
+      → Gathers most (stepOf most r m p .receiver) (stepOf most r m p .memory) (keyOf p) i
+      (sequenceOf p) n (bodyOf p)
   start-gathers e =
       record {
         right = step-right most r m p right;
         memory = one-slot most r m p .size ∙ size;
         slot = room;
         state =
-            ap (λ (l : Left). slotAt (l .receiver .slots) (slotFor (r .slots) (keyOf p))) (start-held e)
-            ∙ slot-same (r .slots) (slotFor (r .slots) (keyOf p)) _
+            ap (λ (l : Left). slotAt (l .receiver .slots) i) (start-held e)
+            ∙ slot-same (r .slots) i _
             (omega (arith, room, right-of most r right .four));
         bytes =
-            ap (λ (l : Left). message (l .memory) (slotFor (r .slots) (keyOf p)) (length (bodyOf p))) (start-held e)
+            ap (λ (l : Left). message (l .memory) i n) (start-held e)
             ∙ laid-first;
       }
