@@ -28,7 +28,7 @@ pub fn read(byte: u8, base: u32, length: u32, size: usize) {
     lay(&mut window);
     octets::lay_high_first(&mut window, byte as usize, base);
     octets::lay_high_first(&mut window, byte as usize + 8, length);
-    tell(text::first(&window, size));
+    tell(octets::part(&window, 0, size));
 }
 
 fn tell(window: &[u8]) {

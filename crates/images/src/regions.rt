@@ -15,7 +15,7 @@ pub fn show() {
 pub fn read(size: usize, id: u32) {
     let mut region = [0u8; 84];
     make(&mut region);
-    tell(pcc::read(text::first(&region, size), id));
+    tell(pcc::read(octets::part(&region, 0, size), id));
 }
 
 fn tell(carried: pcc::Carried) {

@@ -41,11 +41,3 @@ pub fn put_if(flag: bool, words: &[u8]) {
         put(words);
     }
 }
-
-// As many bytes as asked for, from the first on; all where there are fewer.
-pub fn first(bytes: &[u8], size: usize) -> &[u8] {
-    if bytes.len() <= size {
-        return bytes;
-    }
-    &bytes[0..size]
-}
