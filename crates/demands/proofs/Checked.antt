@@ -5,17 +5,17 @@ use mathlib.Core.Bool.{false}
 use mathlib.Core.List.{[], _∷_}
 use Rattle.octets.specs.Bytes.{laid}
 use Rattle.mctp.specs.Key.{keyOf, headerOf, sameKey}
-use Rattle.pec.proofs.Vectors.{vectors}
+use Rattle.pec.specs.Remainder.{polyStep, eightSteps, byteStep, pecFrom, pecOf}
 use Rattle.smbus.proofs.Literal.{literalFrame, literalPacket, literal-good, literal-packet, literal-source}
-use Rattle.mmbi.proofs.States.{flags-0000, flags-1010}
-use Rattle.ring.proofs.Numbers.{numbers-over, numbers-empty, numbers-full}
+use Rattle.mmbi.specs.Interface.{stateOf}
+use Rattle.ring.specs.Numbers.{filledOf, roomOf}
 use Rattle.slots.specs.Slots.{firstOf, slotOf, lowestFree}
 use Rattle.slots.specs.State.{multiple, rightNumbers, rightSlot, clash, rightState}
 use Rattle.decision.specs.Checks.{setupRefusal, packetRefusal, sourceRefusal}
 use Rattle.decision.specs.Rules.{after, onStart, gathered, onFollow, ruled}
 use Rattle.decision.specs.Decision.{fromSource, fromPacket, decided}
 use Rattle.receiver.specs.Step.{done, stepOf}
-use Rattle.messages.proofs.Counts.{three-bodies, three-bodies-message}
+use Rattle.messages.specs.Run.{run}
 use Rattle.rack.specs.declared.answer.Beside.the-variants.{Source}
 use Rattle.rack.specs.Arrivals.{Brought, bySmbus, packet, brings}
 use Rattle.rack.specs.Answers.{given, arrivedOf}
@@ -37,18 +37,21 @@ literal-arrival =
     ap (λ (c : Brought). arrivedOf 64 card empty c .told) literal-brought ∙ ap (given (Source 17)) literal-done
 
 pub numbers : Numbers
+unfolding polyStep eightSteps byteStep pecFrom pecOf filledOf roomOf stateOf run stepOf decided fromPacket fromSource
+    setupRefusal packetRefusal sourceRefusal ruled onStart onFollow gathered after slotOf lowestFree firstOf headerOf
+    keyOf sameKey rightState rightSlot rightNumbers multiple clash laid
 numbers =
     record {
-      pec-of-nothing = vectors .nothing;
-      pec-of-01 = vectors .one;
-      pec-of-80 = vectors .top;
-      pec-of-01-01 = vectors .ones;
+      pec-of-nothing = refl;
+      pec-of-01 = refl;
+      pec-of-80 = refl;
+      pec-of-01-01 = refl;
       good-frame = literal-arrival;
-      over-the-end = numbers-over;
-      both-zero = numbers-empty;
-      full = numbers-full;
-      answers = three-bodies;
-      message = three-bodies-message;
-      transient = flags-0000;
-      running = flags-1010;
+      over-the-end = (refl, refl);
+      both-zero = (refl, refl);
+      full = (refl, refl);
+      answers = refl;
+      message = refl;
+      transient = refl;
+      running = refl;
     }

@@ -1,4 +1,4 @@
--- Document 01's numbers about messages, by computation.
+-- Document 01's numbers about messages that aren't in the demands' list, by computation.
 -- Assumes nothing.
 use mathlib.Core.Path.{_≡_, refl}
 use mathlib.Core.Bool.{true, false}
@@ -20,22 +20,6 @@ use Rattle.messages.specs.Run.{give, free, rules, freed, run, runPackets
 
 abbrev empty : List ℕ
 empty = replicate 4096 0
-
--- "bodies 64, 64, 2 with flags BD, 0D, 5D make a message of 130"
-pub three-bodies : runPackets 64 card empty (packet 0xBD 64 1 ∷ packet 0x0D 64 2 ∷ packet 0x5D 2 3 ∷ []) .answers
-    ≡ rules (held 0 64 false) ∷ rules (held 0 128 false) ∷ rules (done 0 130 false) ∷ []
-unfolding run stepOf decided fromPacket fromSource setupRefusal packetRefusal sourceRefusal ruled onStart onFollow
-    gathered after slotOf lowestFree firstOf headerOf keyOf sameKey rightState rightSlot rightNumbers multiple clash
-    laid
-three-bodies = refl
-
-pub three-bodies-message : runPackets 64 card empty
-    (packet 0xBD 64 1 ∷ packet 0x0D 64 2 ∷ packet 0x5D 2 3 ∷ []) .messages
-    ≡ (replicate 64 1 ++ replicate 64 2 ++ replicate 2 3) ∷ []
-unfolding run stepOf decided fromPacket fromSource setupRefusal packetRefusal sourceRefusal ruled onStart onFollow
-    gathered after slotOf lowestFree firstOf headerOf keyOf sameKey rightState rightSlot rightNumbers multiple clash
-    laid
-three-bodies-message = refl
 
 -- "1,024 bytes held, then one more": 22, and the slot is free; up to 1,024 is held
 pub one-more : stepOf 64 (with-slots (gathering 5 1024) (gathering 6 64) (gathering 7 64) (gathering 4 64)) empty

@@ -124,16 +124,6 @@ pub all-may-write :
 unfolding stateOf
 all-may-write = refl
 
--- "flag state 0000 is transient"
-pub flags-0000 : isTransient (stateOf (flagsOf false false false false)) ≡ true
-unfolding stateOf
-flags-0000 = refl
-
--- "1010 is normal runtime"
-pub flags-1010 : stateOf (flagsOf true false true false) ≡ NormalRuntime
-unfolding stateOf
-flags-1010 = refl
-
 -- the flags that have a name, and their states
 pub named :
     map stateOf (normalRuntime ∷ askedByHost ∷ askedByController ∷ [])

@@ -1,18 +1,17 @@
--- The PECs that document 01 gives ("Numbers to check"), as the definitions give them: a reader's first check of the
--- definitions.
+-- PECs worked out by other means, as the definitions give them: a reader's first check of the definitions. Those that
+-- document 01 gives stand in the demands' list of numbers.
 -- Assumes nothing.
 use mathlib.Core.Path.{_≡_, refl}
 use mathlib.Core.List.{[], _∷_}
 use Rattle.pec.specs.Remainder.{polyStep, eightSteps, byteStep, pecFrom, pecOf}
 
--- "PEC of nothing 0; of 01 is 07; of 80 is 89; of 01 01 is 12." "40 0F 06 23 01 09 0A C8 00 71 is a good frame"
 pub record Vectors : Type 0 where
-  pub nothing : pecOf [] ≡ 0
-  pub one : pecOf (0x01 ∷ []) ≡ 0x07
-  pub top : pecOf (0x80 ∷ []) ≡ 0x89
-  pub ones : pecOf (0x01 ∷ 0x01 ∷ []) ≡ 0x12
-  pub frame : pecOf (0x40 ∷ 0x0F ∷ 0x06 ∷ 0x23 ∷ 0x01 ∷ 0x09 ∷ 0x0A ∷ 0xC8 ∷ 0x00 ∷ []) ≡ 0x71
+  -- the digits 1 to 9 in ASCII: the check value that is published for this polynomial with start 0, nothing reversed
+  pub digits : pecOf (0x31 ∷ 0x32 ∷ 0x33 ∷ 0x34 ∷ 0x35 ∷ 0x36 ∷ 0x37 ∷ 0x38 ∷ 0x39 ∷ []) ≡ 0xF4
+  -- one byte, unlike itself with its bits reversed; and a zero byte behind another, which counts too
+  pub byte : pecOf (0x5A ∷ []) ≡ 0x81
+  pub zero-behind : pecOf (0xC3 ∷ 0x00 ∷ []) ≡ 0xD2
 
 pub vectors : Vectors
 unfolding polyStep eightSteps byteStep pecFrom pecOf
-vectors = record { nothing = refl; one = refl; top = refl; ones = refl; frame = refl }
+vectors = record { digits = refl; byte = refl; zero-behind = refl }

@@ -162,17 +162,15 @@ module _ (length read write : ℕ) (l : Length length) (r : Pointer length read)
       let none : filledOf length read read ≡ 0 = filled-near length read read (omega arith) (r .below) ∙ omega arith in
       omega (arith, filled-room, none, ap (filledOf length read) e, l .low)
 
--- "Ring 128: read 120, write 8: filled 16, room 108."
-pub numbers-over : (filledOf 128 120 8 ≡ 16) × (roomOf 128 120 8 ≡ 108)
+-- a ring of 256 bytes: filled over its end, empty, and full (document 01's own numbers stand in the demands' list)
+pub numbers-over : (filledOf 256 200 40 ≡ 96) × (roomOf 256 200 40 ≡ 156)
 unfolding filledOf roomOf
 numbers-over = (refl, refl)
 
--- "Both 0: filled 0, room 124."
-pub numbers-empty : (filledOf 128 0 0 ≡ 0) × (roomOf 128 0 0 ≡ 124)
+pub numbers-empty : (filledOf 256 64 64 ≡ 0) × (roomOf 256 64 64 ≡ 252)
 unfolding filledOf roomOf
 numbers-empty = (refl, refl)
 
--- "Read 4, write 0: filled 124, room 0."
-pub numbers-full : (filledOf 128 4 0 ≡ 124) × (roomOf 128 4 0 ≡ 0)
+pub numbers-full : (filledOf 256 68 64 ≡ 252) × (roomOf 256 68 64 ≡ 0)
 unfolding filledOf roomOf
 numbers-full = (refl, refl)
