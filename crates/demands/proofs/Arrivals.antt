@@ -14,14 +14,12 @@ use Rattle.octets.proofs.Below.{below-append, below-drop, below-zeros, below-wo
 use Rattle.octets.proofs.Choice.{within-bounds}
 use Rattle.mctp.specs.Packet.{sizeRight}
 use Rattle.mctp.specs.Key.{keyOf}
-use Rattle.smbus.specs.Frame.{frameOf}
+use Rattle.smbus.specs.Layout.{frameOf}
 use Rattle.smbus.specs.Reading as smbus
 use Rattle.smbus.specs.Writing as frames
-use Rattle.smbus.proofs.Answering.{good-packet, good-source}
-use Rattle.smbus.proofs.Made.{good-frame}
-use Rattle.smbus.proofs.Octets.{frame-bytes}
-use Rattle.smbus.proofs.Placing.{fits}
-use Rattle.smbus.proofs.Refusing.{good}
+use Rattle.smbus.proofs.Answers.{good-packet, good-source}
+use Rattle.smbus.proofs.Layouts.{good-frame, frame-bytes}
+use Rattle.smbus.proofs.Readings.{good}
 use Rattle.smbus.proofs.RoundTrip as smbus-back
 use Rattle.pcc.specs.Region.{regionFor}
 use Rattle.pcc.specs.Reading as pcc
@@ -109,14 +107,13 @@ module _ (most : ℕ) where
 
   pub frame-back : (out p : List ℕ) (destination source : ℕ)
       → frames.writeRefusal most (length out) (length p) destination source ≡ 0
-      → smbusBrings most (take (frames.frameSize (length p)) (frames.outputOf most out p destination source))
+      → smbusBrings most (take (frames.frameSize (length p)) (frames.writtenOf most out p destination source))
       destination ≡ packet p (Source source)
   frame-back out p destination source e =
-      let f = fits most (length out) (length p) destination source e in
-      let written = take (frames.frameSize (length p)) (frames.outputOf most out p destination source) in
-      smbus-found written destination p source (smbus-back.back-number most out p destination source f)
-      (smbus-back.back-packet most out p destination source f)
-      (smbus-back.back-source most out p destination source f)
+      let written = take (frames.frameSize (length p)) (frames.writtenOf most out p destination source) in
+      smbus-found written destination p source (smbus-back.back-number most out p destination source e)
+      (smbus-back.back-packet most out p destination source e)
+      (smbus-back.back-source most out p destination source e)
 
   pub region-back : (region : List ℕ) (id : ℕ) (notify : Bool) (p : List ℕ)
       → regions.writeRefusal most (length region) id (length p) ≡ 0

@@ -6,7 +6,7 @@ use mathlib.Core.Path.{_≡_}
 use contract.Lifetimes.{Lfts}
 use denote.Ref.{now}
 use lib.ListN.{length}
-use Rattle.smbus.specs.Answers.{saysWritten, writtenOf}
+use Rattle.smbus.specs.Answers as smbus-says
 use Rattle.smbus.specs.Reading as smbus
 use Rattle.smbus.specs.Writing as frames
 use Rattle.smbus.proofs.packet.Reads as smbus-packet
@@ -51,9 +51,12 @@ pub smbus-source-is : (κs : Lfts 1) (a r e : _) → smbus-source.Post κs a r e
 smbus-source-is κs a r e p = p
 
 pub smbus-write-is : (κs : Lfts 2) (a r e : _) → smbus-write.Post κs a r e
-    → (saysWritten r ≡ writtenOf 64 (length (a .0 .now)) (length (a .1 .0 .now)) (a .1 .1 .0) (a .1 .1 .1 .0))
-    × (e .0 .now ≡ frames.outputOf 64 (a .0 .now) (a .1 .0 .now) (a .1 .1 .0) (a .1 .1 .1 .0))
-smbus-write-is κs a r e p = (p .0, p .1)
+    → (smbus-says.numberWritten r
+    ≡ frames.writeRefusal 64 (length (a .0 .now)) (length (a .1 .0 .now)) (a .1 .1 .0) (a .1 .1 .1 .0))
+    × (smbus-says.sizeWritten r
+    ≡ frames.sizeOf 64 (length (a .0 .now)) (length (a .1 .0 .now)) (a .1 .1 .0) (a .1 .1 .1 .0))
+    × (e .0 .now ≡ frames.writtenOf 64 (a .0 .now) (a .1 .0 .now) (a .1 .1 .0) (a .1 .1 .1 .0))
+smbus-write-is κs a r e p = (p .0, p .1 .0, p .1 .1)
 
 -- PCC: a region and its id; a region, its id, the notify flag and a packet
 pub pcc-packet-is : (κs : Lfts 1) (a r e : _) → pcc-packet.Post κs a r e → now r ≡ pcc.packetOf 64 (a .0 .now) (a .1 .0)

@@ -12,10 +12,10 @@ use Rattle.octets.specs.Words.{lowFirst, wordAt}
 use Rattle.mctp.specs.Packet.{sizeRight, endOf}
 use Rattle.mctp.specs.Key.{keyOf}
 use Rattle.pec.specs.Wire.{WindowChange, OddChange}
-use Rattle.smbus.specs.Frame.{frameOf}
+use Rattle.smbus.specs.Layout.{frameOf}
 use Rattle.smbus.specs.Reading as smbus
 use Rattle.smbus.specs.Writing as frames
-use Rattle.smbus.proofs.Placing.{output-written, output-unwritten}
+use Rattle.smbus.proofs.Answers.{output-written, output-unwritten}
 use Rattle.smbus.proofs.WrongBits.{window-refused, odd-refused}
 use Rattle.pcc.specs.Region.{regionWith, regionOf, regionFor}
 use Rattle.pcc.specs.Reading as pcc
@@ -146,7 +146,7 @@ pointer-not-stored = pointer-refused
 -- a refused writer leaves what was lent to it
 pub frame-not-written : (out p : List ℕ) (destination source : ℕ)
     → (frames.writeRefusal 64 (length out) (length p) destination source ≡ 0 → ⊥)
-    → frames.outputOf 64 out p destination source ≡ out
+    → frames.writtenOf 64 out p destination source ≡ out
 frame-not-written out p destination source = output-unwritten 64 out p destination source
 
 pub region-not-written : (region : List ℕ) (id : ℕ) (notify : Bool) (p : List ℕ)
@@ -169,7 +169,7 @@ good-frame-is-the-layout = good.frame-layout 64
 
 pub written-frame-is-the-layout : (out p : List ℕ) (destination source : ℕ)
     → frames.writeRefusal 64 (length out) (length p) destination source ≡ 0
-    → frames.outputOf 64 out p destination source ≡ fronted out (frameOf destination source p)
+    → frames.writtenOf 64 out p destination source ≡ fronted out (frameOf destination source p)
 written-frame-is-the-layout = output-written 64
 
 -- a good region is the layout of its packet with its own flags, of which bit 0 is notify, and a written one has no
@@ -219,7 +219,7 @@ a-message-of-one-packet = single-accepted 64
 -- "What is written reads back the same": "a frame at its destination address,"
 pub frame-reads-back : (out p : List ℕ) (destination source : ℕ)
     → frames.writeRefusal 64 (length out) (length p) destination source ≡ 0
-    → brings 64 (bySmbus (take (frames.frameSize (length p)) (frames.outputOf 64 out p destination source))
+    → brings 64 (bySmbus (take (frames.frameSize (length p)) (frames.writtenOf 64 out p destination source))
     destination) ≡ packet p (Source source)
 frame-reads-back = good.frame-back 64
 

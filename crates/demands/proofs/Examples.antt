@@ -12,11 +12,11 @@ use Rattle.octets.specs.Words.{lowFirst, wordAt, wordBytes}
 use Rattle.octets.proofs.Below.{below-zeros}
 use Rattle.mctp.specs.Key.{keyOf}
 use Rattle.pec.proofs.Tests.{all-bytes}
-use Rattle.smbus.specs.Frame.{frameOf}
+use Rattle.smbus.specs.Layout.{frameOf}
 use Rattle.smbus.specs.Reading as smbus
 use Rattle.smbus.specs.Writing as frames
+use Rattle.smbus.proofs.Layouts.{frame-bytes}
 use Rattle.smbus.proofs.Literal.{literalFrame, literalPacket, literal-good}
-use Rattle.smbus.proofs.Octets.{frame-bytes}
 use Rattle.smbus.proofs.OddChanges.{threeBits, three-bits, wrongPec, wrong-pec, wrong-pec-bytes}
 use Rattle.smbus.proofs.RoundTrip.{frame-number}
 use Rattle.smbus.proofs.Windows.{acrossBorder, across-border}
@@ -142,7 +142,7 @@ no-room : (frames.writeRefusal 64 0 5 32 17 ≡ 2) × (regions.writeRefusal 64 0
 unfolding frames.writeRefusal regions.writeRefusal
 no-room = (refl, refl)
 
-pub frame-not-written : frames.outputOf 64 [] literalPacket 32 17 ≡ []
+pub frame-not-written : frames.writtenOf 64 [] literalPacket 32 17 ≡ []
 frame-not-written = demands.frame-not-written [] literalPacket 32 17 (λ e. omega (arith, no-room .0))
 
 pub region-not-written : regions.writtenOf 64 [] 3 true literalPacket ≡ []
@@ -169,11 +169,11 @@ writable = (refl, refl)
 abbrev ten : List ℕ
 ten = replicate 10 238
 
-pub written-frame-is-the-layout : frames.outputOf 64 ten literalPacket 32 17 ≡ fronted ten (frameOf 32 17 literalPacket)
+pub written-frame-is-the-layout : frames.writtenOf 64 ten literalPacket 32 17 ≡ fronted ten (frameOf 32 17 literalPacket)
 written-frame-is-the-layout = demands.written-frame-is-the-layout ten literalPacket 32 17 (writable .0)
 
 pub frame-reads-back : brings 64
-    (bySmbus (take (frames.frameSize 5) (frames.outputOf 64 ten literalPacket 32 17)) 32)
+    (bySmbus (take (frames.frameSize 5) (frames.writtenOf 64 ten literalPacket 32 17)) 32)
     ≡ carrier.packet literalPacket (Source 17)
 frame-reads-back = demands.frame-reads-back ten literalPacket 32 17 (writable .0)
 

@@ -18,8 +18,8 @@ use Rattle.mctp.proofs.Refusals.{number-positive}
 use Rattle.smbus.specs.declared.answer.Carried as smbus
 use Rattle.smbus.specs.declared.answer.Carried.the-variants as smbus-case
 use Rattle.smbus.specs.Reading as frame
-use Rattle.smbus.specs.Answers as smbus-says
-use Rattle.smbus.proofs.Answering.{told-good, told-packet, told-source, told-number}
+use Rattle.smbus.proofs.Answers as smbus-says
+use Rattle.smbus.proofs.Answers.{told-good, told-packet, told-source, told-number}
 use Rattle.pcc.specs.declared.answer.Carried as pcc
 use Rattle.pcc.specs.declared.answer.Carried.the-variants as pcc-case
 use Rattle.pcc.specs.Reading as region
@@ -43,7 +43,7 @@ not-zero : (why : Refusal) {n : ℕ} → n ≡ numberOf why → n ≡ 0 → ⊥
 not-zero why e z = omega (arith, number-positive why)
 
 module _ (most : ℕ) (f : List ℕ) (own : ℕ) (c : smbus.Carried)
-    (says : smbus-says.saysCarried c ≡ smbus-says.carriedOf most f own) where
+    (says : smbus-says.Says most f own c) where
   pub smbus-none : (why : Refusal) → c ≡ smbus-case.Refused why → smbusBrings most f own ≡ none (without (whySmbus c))
   unfolding smbusBrings
   smbus-none why is =

@@ -9,7 +9,7 @@ use lib.Seq.{take-at}
 use Rattle.octets.specs.Bytes.{laid, fronted}
 use Rattle.octets.proofs.Laid.{laid-append, laid-front}
 use Rattle.pec.specs.Remainder.{pecOf}
-use Rattle.smbus.specs.Frame.{headOf, coveredOf, frameOf}
+use Rattle.smbus.specs.Layout.{headOf, coveredOf, frameOf}
 
 module _ (destination source : ℕ) (packet : List ℕ) where
   pub covered-length : length (coveredOf destination source packet) ≡ 4 + length packet

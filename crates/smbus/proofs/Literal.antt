@@ -7,11 +7,11 @@ use native.Mathlib.Omega.{arith}
 use lib.ListN.{length, drop, replicate}
 use Rattle.octets.specs.Bytes.{fronted}
 use Rattle.pec.specs.Remainder.{polyStep, eightSteps, byteStep, pecFrom, pecOf}
-use Rattle.smbus.specs.Frame.{headOf, coveredOf, frameOf}
+use Rattle.smbus.specs.Layout.{headOf, coveredOf, frameOf}
 use Rattle.smbus.specs.Reading.{endOf, beforeEnd, refusalOf, partOf, packetOf, sourceAddressOf}
-use Rattle.smbus.specs.Writing.{writeRefusal, outputOf}
-use Rattle.smbus.specs.Answers.{writtenOf}
-use Rattle.smbus.proofs.Placing.{written-all, output-written}
+use Rattle.smbus.specs.Writing.{writeRefusal, sizeOf, writtenOf}
+use Rattle.smbus.proofs.Writings.{of-good}
+use Rattle.smbus.proofs.Answers.{output-written}
 
 -- `40 0F 06 23 01 09 0A C8 00 71`
 abbrev pub literalFrame : List ℕ
@@ -40,21 +40,18 @@ pub literal-frame : frameOf 32 17 literalPacket ≡ literalFrame
 unfolding frameOf coveredOf headOf pecOf pecFrom byteStep eightSteps polyStep
 literal-frame = refl
 
-pub literal-answer : (room : ℕ) → 10 ≤ room → writtenOf 64 room 5 32 17 ≡ record { number = 0; size = 10 }
-unfolding writtenOf
-literal-answer room h =
-    let number : writeRefusal 64 room 5 32 17 ≡ 0 =
-    written-all 64 room 5 32 17 (omega arith) (omega arith) (omega arith) (omega arith) (omega arith) (omega arith) h in
-    rw number
+pub literal-number : (room : ℕ) → 10 ≤ room → writeRefusal 64 room 5 32 17 ≡ 0
+literal-number room h = of-good 64 room 5 32 17 (omega arith)
+
+pub literal-size : (room : ℕ) → 10 ≤ room → sizeOf 64 room 5 32 17 ≡ 10
+unfolding sizeOf
+literal-size room h = rw (literal-number room h)
 
 pub literal-output : (out : List ℕ) → 10 ≤ length out
-    → outputOf 64 out literalPacket 32 17 ≡ literalFrame ++ drop 10 out
+    → writtenOf 64 out literalPacket 32 17 ≡ literalFrame ++ drop 10 out
 unfolding fronted
 literal-output out h =
-    output-written 64 out literalPacket 32 17
-    (written-all 64 (length out) 5 32 17 (omega arith) (omega arith) (omega arith) (omega arith) (omega arith)
-    (omega arith) h)
-    ∙ ap (fronted out) literal-frame
+    output-written 64 out literalPacket 32 17 (literal-number (length out) h) ∙ ap (fronted out) literal-frame
 
 -- the limits of the checks: "own address over 127", "frame not 10 to 73 bytes", "packet size"
 pub record Limits : Type 0 where

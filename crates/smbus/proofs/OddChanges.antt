@@ -13,10 +13,10 @@ use Rattle.pec.specs.Wire.{Bytes, bitsOf, wire, differences, OddChange}
 use Rattle.pec.proofs.Counts.{any-odd, byte-odd}
 use Rattle.pec.proofs.Fold.{pec-byte}
 use Rattle.pec.proofs.Tests.{below, passed}
-use Rattle.smbus.specs.Frame.{coveredOf, frameOf}
+use Rattle.smbus.specs.Layout.{coveredOf, frameOf}
 use Rattle.smbus.specs.Reading.{endOf, beforeEnd, refusalOf}
+use Rattle.smbus.proofs.Layouts.{ended-bytes}
 use Rattle.smbus.proofs.Literal.{literalFrame}
-use Rattle.smbus.proofs.Octets.{ended-bytes}
 use Rattle.smbus.proofs.Windows.{firstBit}
 use Rattle.smbus.proofs.WrongBits.{odd-refused, literal-refused}
 

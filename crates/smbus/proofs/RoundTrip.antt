@@ -10,13 +10,13 @@ use lib.Seq.{take-at}
 use Rattle.octets.specs.Bytes.{fronted}
 use Rattle.pec.specs.Remainder.{pecOf}
 use Rattle.pec.proofs.Checks.{checked-made, checked-last}
-use Rattle.smbus.specs.Frame.{headOf, coveredOf, frameOf}
-use Rattle.smbus.specs.Reading.{endOf, beforeEnd, refusalOf, partOf, packetOf, sourceAddressOf, Good}
-use Rattle.smbus.specs.Writing.{frameSize, outputOf, Fits}
+use Rattle.smbus.specs.Layout.{headOf, coveredOf, frameOf}
+use Rattle.smbus.specs.Reading.{endOf, beforeEnd, refusalOf, partOf, packetOf, sourceAddressOf}
+use Rattle.smbus.specs.Writing.{frameSize, writeRefusal, writtenOf}
 use Rattle.smbus.proofs.Framing.{frame-length}
-use Rattle.smbus.proofs.Refusing.{of-good}
-use Rattle.smbus.proofs.Answering.{good-packet, good-source}
-use Rattle.smbus.proofs.Placing.{of-fits, output-written}
+use Rattle.smbus.proofs.Readings.{Good, of-good}
+use Rattle.smbus.proofs.Writings.{good}
+use Rattle.smbus.proofs.Answers.{good-packet, good-source, output-written}
 
 module _ (most destination source : ℕ) (packet : List ℕ) where
   abbrev frame : List ℕ
@@ -41,7 +41,11 @@ module _ (most destination source : ℕ) (packet : List ℕ) where
         let n : length (frameOf destination source packet) ≡ 5 + length packet =
         frame-length destination source packet in
         record {
-          sized = record { least = least; largest = largest; address = to; short = omega arith; long = omega arith };
+          least = least;
+          largest = largest;
+          address = to;
+          short = omega arith;
+          long = omega arith;
           bit = omega arith;
           ours = omega arith;
           command = omega arith;
@@ -62,32 +66,32 @@ module _ (most destination source : ℕ) (packet : List ℕ) where
 -- A written frame, taken from the output's front and read at its destination, gives the packet, the sender and the
 -- number 0.
 module _ (most : ℕ) (out packet : List ℕ) (destination source : ℕ)
-    (f : Fits most (length out) (length packet) destination source) where
+    (e : writeRefusal most (length out) (length packet) destination source ≡ 0) where
   abbrev written : List ℕ
-  written = take (frameSize (length packet)) (outputOf most out packet destination source)
+  written = take (frameSize (length packet)) (writtenOf most out packet destination source)
 
   pub written-frame : written ≡ frameOf destination source packet
   unfolding fronted
   written-frame =
-      ap (take (5 + length packet)) (output-written most out packet destination source
-      (of-fits most (length out) (length packet) destination source f))
+      ap (take (5 + length packet)) (output-written most out packet destination source e)
       ∙ take-at (frameOf destination source packet) _ (5 + length packet) (frame-length destination source packet)
 
+  -- what the frame gives, with all that the number 0 says
+  read-back : (refusalOf most written destination ≡ 0) × (packetOf most written destination ≡ packet)
+      × (sourceAddressOf most written destination ≡ source)
+  read-back =
+      let g = good most (length out) (length packet) destination source e in
+      rw written-frame (
+        frame-number most destination source packet (g .least) (g .largest) (g .to) (g .short) (g .long),
+        frame-packet most destination source packet (g .least) (g .largest) (g .to) (g .short) (g .long),
+        frame-source most destination source packet (g .least) (g .largest) (g .to) (g .short) (g .long),
+      )
+
   pub back-number : refusalOf most written destination ≡ 0
-  back-number =
-      ap (λ (s : List ℕ). refusalOf most s destination) written-frame
-      ∙ frame-number most destination source packet (f .least) (f .largest) (f .to) (f .short) (f .long)
+  back-number = read-back .0
 
   pub back-packet : packetOf most written destination ≡ packet
-  back-packet =
-      ap (λ (s : List ℕ). packetOf most s destination) written-frame
-      ∙ frame-packet most destination source packet (f .least) (f .largest) (f .to) (f .short) (f .long)
+  back-packet = read-back .1
 
   pub back-source : sourceAddressOf most written destination ≡ source
-  back-source =
-      ap (λ (s : List ℕ). sourceAddressOf most s destination) written-frame
-      ∙ frame-source most destination source packet (f .least) (f .largest) (f .to) (f .short) (f .long)
-
-  pub round-trip : (refusalOf most written destination ≡ 0) × (packetOf most written destination ≡ packet)
-      × (sourceAddressOf most written destination ≡ source)
-  round-trip = (back-number, back-packet, back-source)
+  back-source = read-back .2

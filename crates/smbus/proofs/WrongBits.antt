@@ -10,9 +10,9 @@ use Rattle.pec.proofs.Checks.{checked-of}
 use Rattle.pec.proofs.Odd.{odd}
 use Rattle.pec.proofs.Tests.{allBytes, all-bytes}
 use Rattle.pec.proofs.Window.{window}
-use Rattle.smbus.specs.Reading.{endOf, beforeEnd, refusalOf, Good}
+use Rattle.smbus.specs.Reading.{endOf, beforeEnd, refusalOf}
 use Rattle.smbus.proofs.Literal.{literalFrame, literal-good}
-use Rattle.smbus.proofs.Refusing.{good}
+use Rattle.smbus.proofs.Readings.{Good, good}
 
 -- What a rule says of a kind of change: a good frame so changed is refused, by some number, at every address and every
 -- largest body.
@@ -26,7 +26,7 @@ good-checked : (most : ℕ) (frame : List ℕ) (own : ℕ) → refusalOf most fr
 unfolding endOf beforeEnd
 good-checked most frame own e =
     let g : Good most frame own = good most frame own e in
-    checked-of frame (omega (arith, g .sized .short)) (g .checked)
+    checked-of frame (omega (arith, g .short)) (g .checked)
 
 -- A change that leaves no checked list checked is of such a kind.
 always-refused : (Kind : List ℕ → List ℕ → Type 0)

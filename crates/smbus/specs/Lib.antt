@@ -1,4 +1,4 @@
-pub mod Frame
+pub mod Layout
 pub mod Reading
 pub mod Writing
 pub mod Answers

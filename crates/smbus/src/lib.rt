@@ -1,6 +1,5 @@
 // The SMBus carrier: the packet found in a lent frame, and a packet written as a frame.
 mod answer;
-mod limits;
 mod reading;
 mod writing;
 

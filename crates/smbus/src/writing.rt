@@ -1,60 +1,67 @@
 // Writing a packet as a frame: first whether it may be, by sizes and addresses alone, then the frame itself.
 use crate::answer::Written;
-use crate::limits::lies_within;
+use mctp::LARGEST_BODY;
+use mctp::Outcome;
 use mctp::Refusal;
 ghost use mathlib.Core.Path.{_≡_};
 ghost use Prim.Native.Nat.{_+_, _≤_};
 ghost use lib.ListN.{length};
 ghost use Rattle.octets.specs.Bytes.{fronted};
-ghost use Rattle.smbus.specs.Frame.{frameOf};
-ghost use Rattle.smbus.specs.Writing.{outputOf};
-ghost use Rattle.smbus.specs.Answers.{saysWritten, writtenOf};
+ghost use Rattle.mctp.specs.Refusals.{outcomeNumber};
+ghost use Rattle.smbus.specs.Layout.{frameOf};
+ghost use Rattle.smbus.specs.Writing.{writeRefusal, sizeOf, writtenOf};
+ghost use Rattle.smbus.specs.Answers.{numberWritten, sizeWritten};
 
 // The frame at the front of the output, the rest unchanged; nothing is written where the answer is a refusal.
 pub fn write(out: &mut [u8], packet: &[u8], destination: u8, source: u8) -> Written
-    ensures answer { λ r. ⌜ saysWritten r ≡ writtenOf 64 (length (now (out .entry)))
-        (length (now (packet .entry))) destination source ⌝ }
-    ensures output { λ _. ⌜ now (out .exit) ≡ outputOf 64 (now (out .entry)) (now (packet .entry)) destination source ⌝ }
+    ensures number { λ r. ⌜ numberWritten r
+        ≡ writeRefusal 64 (length (now (out .entry))) (length (now (packet .entry))) destination source ⌝ }
+    ensures size { λ r. ⌜ sizeWritten r
+        ≡ sizeOf 64 (length (now (out .entry))) (length (now (packet .entry))) destination source ⌝ }
+    ensures output { λ _. ⌜ now (out .exit)
+        ≡ writtenOf 64 (now (out .entry)) (now (packet .entry)) destination source ⌝ }
 {
-    write_within(mctp::LARGEST_BODY, out, packet, destination, source)
+    write_within(LARGEST_BODY, out, packet, destination, source)
 }
 
 fn write_within(most: usize, out: &mut [u8], packet: &[u8], destination: u8, source: u8) -> Written
-    ensures answer { λ r. ⌜ saysWritten r ≡ writtenOf most (length (now (out .entry)))
-        (length (now (packet .entry))) destination source ⌝ }
-    ensures output { λ _. ⌜ now (out .exit) ≡ outputOf most (now (out .entry))
-        (now (packet .entry)) destination source ⌝ }
+    ensures number { λ r. ⌜ numberWritten r
+        ≡ writeRefusal most (length (now (out .entry))) (length (now (packet .entry))) destination source ⌝ }
+    ensures size { λ r. ⌜ sizeWritten r
+        ≡ sizeOf most (length (now (out .entry))) (length (now (packet .entry))) destination source ⌝ }
+    ensures output { λ _. ⌜ now (out .exit)
+        ≡ writtenOf most (now (out .entry)) (now (packet .entry)) destination source ⌝ }
 {
-    let answer = answer_for(most, out.len(), packet.len(), destination, source);
-    match answer {
-        Written::Frame(size) => {
+    let allowed = may_write(most, out.len(), packet.len(), destination, source);
+    match allowed {
+        Outcome::Good => {
             fill(out, packet, destination, source);
-            Written::Frame(size)
+            Written::Frame(5 + packet.len())
         }
-        Written::Refused(why) => Written::Refused(why),
+        Outcome::Refused(why) => Written::Refused(why),
     }
 }
 
-// All that is refused is refused here, before a byte is written.
-fn answer_for(most: usize, room: usize, size: usize, destination: u8, source: u8) -> Written
-    ensures { λ r. ⌜ saysWritten r ≡ writtenOf most room size destination source ⌝ }
+// Whether a packet of this size may be written: all that is refused is refused here, before a byte is stored.
+fn may_write(most: usize, room: usize, size: usize, destination: u8, source: u8) -> Outcome
+    ensures { λ r. ⌜ outcomeNumber r ≡ writeRefusal most room size destination source ⌝ }
 {
-    if !lies_within(64, 246, most) {
-        return Written::Refused(Refusal::Setup);
+    if !mctp::body_right(most) {
+        return Outcome::Refused(Refusal::Setup);
     }
     if 127 < destination {
-        return Written::Refused(Refusal::Setup);
+        return Outcome::Refused(Refusal::Setup);
     }
     if 127 < source {
-        return Written::Refused(Refusal::Setup);
+        return Outcome::Refused(Refusal::Setup);
     }
-    if !lies_within(5, 4 + most, size) {
-        return Written::Refused(Refusal::Size);
+    if !mctp::size_right(most, size) {
+        return Outcome::Refused(Refusal::Size);
     }
     if room < 5 + size {
-        return Written::Refused(Refusal::Room);
+        return Outcome::Refused(Refusal::Room);
     }
-    Written::Frame(5 + size)
+    Outcome::Good
 }
 
 // The head, the packet, and the PEC of both.

@@ -1,7 +1,7 @@
 -- `smbus::reading::packet` meets its contract.
 -- Assumes nothing.
 use mathlib.Core.Path.{sym, _∙_}
-use Rattle.smbus.proofs.Answering.{told-packet, told-no-packet}
+use Rattle.smbus.proofs.Answers.{told-packet, told-no-packet}
 use borrow.Author.Needs.{needs}
 use Rattle.smbus.proofs.reading.packet.Statement.{statement}
 use Rattle.smbus.proofs.reading.packet.Tie as tie

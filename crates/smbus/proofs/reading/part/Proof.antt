@@ -1,10 +1,11 @@
--- `smbus::reading::part` meets its contract: a frame of fewer than five bytes has no part.
+-- `smbus::reading::part` meets its contract.
 -- Assumes nothing.
-use mathlib.Core.Path.{ap}
-use Prim.Native.Nat.{ℕ, _-_}
-use mathlib.Core.Path.{_≡_}
+use mathlib.Core.Path.{_≡_, ap, _∙_}
+use mathlib.Core.Logic.{⊎-elim}
+use Prim.Native.Nat.{_-_}
 use native.Mathlib.Omega.{arith}
-use lib.ListN.{length, take, drop}
+use lib.ListN.{length}
+use Rattle.octets.specs.Bytes.{part}
 use Rattle.smbus.specs.Reading.{partOf}
 use borrow.Author.Needs.{needs}
 use Rattle.smbus.proofs.reading.part.Statement.{statement}
@@ -13,27 +14,10 @@ use Rattle.smbus.proofs.reading.part.Tie as tie
 returns : tie.Need-returns
 unfolding partOf
 returns c =
-    let s = c .before .before .args .frame .now in
-    let none : 0 ≡ length s - 5 = omega arith in
-    ap (λ (n : ℕ). take n (drop 4 s)) none
-
-returns-2 : tie.Need-returns-2
-unfolding partOf
-returns-2 c =
-    let s = c .before .before .args .frame .now in
-    let size : length s - 1 - 4 ≡ length s - 5 = omega arith in
-    ap (λ (n : ℕ). take n (drop 4 s)) size
+    let s = c .before .before .before .args .frame .now in
+    let size : c .before .if1 .part ≡ length s - 5 =
+    ⊎-elim (λ h. h .1 ∙ omega (arith, h .0 .taken)) (λ h. h .1) (c .before .if1 .came) in
+    c .part .ensures ∙ ap (part s 4) size
 
 pub part-spec : {M : Type 1} → statement M
-part-spec =
-    tie.close
-    (tie.spec
-    (λ c. search needs)
-    (λ c. search needs)
-    (λ c. search needs)
-    returns
-    (λ c. search needs)
-    (λ c. search needs)
-    (λ c. search needs)
-    (λ c. search needs)
-    returns-2)
+part-spec = tie.close (tie.spec (λ c. search needs) (λ c κs. search needs) returns)

@@ -1,48 +1,94 @@
--- `smbus::reading::read_within` meets its contract.
+-- `smbus::reading::read_within` meets its contract: each return is one place of the order.
 -- Assumes nothing.
-use mathlib.Core.Path.{sym, _∙_}
-use Prim.Native.Nat.{_≤_}
+use mathlib.Core.Path.{_≡_, sym, _∙_}
+use mathlib.Core.Bool.{true}
+use mathlib.Core.Logic.{by-cases}
+use Prim.Native.Nat.{_%_, _≤_}
+use native.Mathlib.Decide.{decLe}
 use native.Mathlib.Omega.{arith}
 use borrow.Author.Tests.{not-true, not-false}
-use Rattle.octets.proofs.Choice.{within-bounds}
-use Rattle.mctp.specs.declared.refusal.Refusal.the-variants.{Setup, Size}
-use Rattle.smbus.proofs.Refusing.{refused-most, refused-own, refused-size}
-use Rattle.smbus.proofs.Answering.{says-refused}
+use lib.ListN.{getD}
+use Rattle.octets.proofs.Checks.{tests}
+use Rattle.mctp.specs.Packet.{bodyRight}
+use Rattle.mctp.specs.declared.refusal.Refusal.the-variants.{Setup, Size, Address, Command, Count, SourceBit, Pec}
+use Rattle.smbus.proofs.Readings.{refused-at, of-good}
+use Rattle.smbus.proofs.Answers.{says-refused, says-good}
 use borrow.Author.Needs.{needs}
 use Rattle.smbus.proofs.reading.read_within.Statement.{statement}
 use Rattle.smbus.proofs.reading.read_within.Tie as tie
 
 returns : tie.Need-returns
 returns c =
-    says-refused _ _ _ Setup (refused-most _ _ _ (sym (c .before .lies-within .ensures) ∙ not-true _ (c .if1 .taken)))
+    says-refused _ _ _ Setup (refused-at _ _ _ 0 (sym (c .before .body-right .ensures) ∙ not-true _ (c .if1 .taken)))
 
 -- behind the first check the largest body is one
-body : (c : tie.Else1) → (64 ≤ c .before .before .before .args .most) × (c .before .before .before .args .most ≤ 246)
-body c = within-bounds 64 246 _ (sym (c .before .lies-within .ensures) ∙ not-false _ (c .if1 .left))
+body : (c : tie.Else1) → bodyRight (c .before .before .before .args .most) ≡ true
+body c = sym (c .before .body-right .ensures) ∙ not-false _ (c .if1 .left)
+
+-- the first check from behind the size's, that one from behind the command's, and that one from behind the PEC's
+abbrev first : tie.Else4 → tie.Else1
+first c = c .before .before .before
+
+abbrev size : tie.Else6 → tie.Else4
+size c = c .before .before .before .before
+
+abbrev pec : tie.After-ends-right → tie.Else6
+pec c = c .before .before .before .before .before
 
 returns-2 : tie.Need-returns-2
-returns-2 c = says-refused _ _ _ Setup (refused-own _ _ _ (body (c .before) .0) (body (c .before) .1) (c .if2 .taken))
-
-add-lies-within : tie.Need-add-lies-within
-add-lies-within c = omega (arith, body (c .before))
+returns-2 c = let b = body (c .before) in says-refused _ _ _ Setup (refused-at _ _ _ 1 (omega (arith, tests)))
 
 returns-3 : tie.Need-returns-3
-returns-3 c =
-    says-refused _ _ _ Size
-    (refused-size _ _ _ (body (c .before .before .before) .0) (body (c .before .before .before) .1) (omega arith)
-    (sym (c .before .lies-within2 .ensures) ∙ not-true _ (c .if3 .taken)))
+returns-3 c = let b = body (c .before .before) in says-refused _ _ _ Size (refused-at _ _ _ 2 (omega (arith, tests)))
 
-read-sized-requires : tie.Need-read-sized-requires
-read-sized-requires c κs =
-    let size = within-bounds 10 _ _ (sym (c .before .lies-within2 .ensures) ∙ not-false _ (c .if3 .left)) in
-    let most = body (c .before .before .before) in
-    record {
-      least = most .0;
-      largest = most .1;
-      address = c .before .before .if2 .left;
-      short = size .0;
-      long = size .1;
-    }
+add-if4 : tie.Need-add-if4
+add-if4 c = let b = body (c .before .before) in omega (arith, tests)
+
+returns-4 : tie.Need-returns-4
+returns-4 c =
+    let b = body (c .before .before .before) in says-refused _ _ _ Size (refused-at _ _ _ 2 (omega (arith, tests)))
+
+-- byte 0 is not ours: its bit 0 is set, or the address is another
+returns-5 : tie.Need-returns-5
+returns-5 c =
+    let b = body (first (c .before .before)) in
+    let bit = getD (first (c .before .before) .before .before .before .args .frame .now) 0 0 % 2 in
+    says-refused _ _ _ Address
+    (by-cases (decLe bit 0) (λ (h : bit ≤ 0). refused-at _ _ _ 4 (omega (arith, tests)))
+    (λ (h : bit ≤ 0 → ⊥). refused-at _ _ _ 3 (omega (arith, tests))))
+
+returns-6 : tie.Need-returns-6
+returns-6 c =
+    let b = body (first (c .before .before .before .before)) in
+    says-refused _ _ _ Command (refused-at _ _ _ 5 (omega (arith, tests)))
+
+cast-if7 : tie.Need-cast-if7
+cast-if7 c = omega (arith, c .shared-slice-known4 .given 2)
+
+add-if7 : tie.Need-add-if7
+add-if7 c = omega (arith, c .shared-slice-known4 .given 2)
+
+returns-7 : tie.Need-returns-7
+returns-7 c =
+    let b = body (first (size (c .before .before))) in
+    says-refused _ _ _ Count (refused-at _ _ _ 6 (omega (arith, tests)))
+
+returns-8 : tie.Need-returns-8
+returns-8 c =
+    let b = body (first (size (c .before .before .before .before))) in
+    says-refused _ _ _ SourceBit (refused-at _ _ _ 7 (omega (arith, tests)))
+
+returns-9 : tie.Need-returns-9
+returns-9 c =
+    let b = body (first (size (pec (c .before)))) in
+    let e = sym (c .before .ends-right .ensures) ∙ not-true _ (c .if9 .taken) in
+    says-refused _ _ _ Pec (refused-at _ _ _ 8 (omega (arith, tests)))
+
+returns-10 : tie.Need-returns-10
+returns-10 c =
+    let b = body (first (size (pec (c .before .before)))) in
+    let e = sym (c .before .before .ends-right .ensures) ∙ not-false _ (c .before .if9 .left) in
+    says-good _ _ _ (of-good _ _ _ (omega (arith, tests)))
 
 pub read-within-spec : {M : Type 1} → statement M
 read-within-spec =
@@ -51,8 +97,21 @@ read-within-spec =
     (λ c κs. search needs)
     returns
     returns-2
-    add-lies-within
-    (λ c κs. search needs)
     returns-3
-    read-sized-requires
-    (λ c. search needs))
+    add-if4
+    returns-4
+    (λ c. search needs)
+    (λ c. search needs)
+    returns-5
+    (λ c. search needs)
+    returns-6
+    (λ c. search needs)
+    cast-if7
+    add-if7
+    returns-7
+    (λ c. search needs)
+    returns-8
+    (λ c κs. search needs)
+    returns-9
+    (λ c. search needs)
+    returns-10)

@@ -5,7 +5,7 @@ use mathlib.Core.List.{List}
 use Prim.Native.Nat.{ℕ, _+_, _-_, _≤_}
 use Rattle.octets.specs.Bytes.{laid}
 use Rattle.pec.specs.Remainder.{pecOf}
-use Rattle.smbus.specs.Frame.{coveredOf}
+use Rattle.smbus.specs.Layout.{coveredOf}
 use mathlib.Core.Path.{_≡_, ap, _∙_}
 use native.Mathlib.Omega.{arith}
 use lib.ListN.{length, take, set, length-set}

@@ -1,35 +1,36 @@
--- `smbus::writing::write_within` meets its contract.
+-- `smbus::writing::write_within` meets its contract: nothing is touched where refused.
 -- Assumes nothing.
-use Rattle.smbus.specs.Answers.{saysWritten}
-use mathlib.Core.Path.{sym, ap, _∙_}
+use mathlib.Core.Path.{_≡_, sym, ap, _∙_}
 use native.Mathlib.Omega.{arith}
-use Rattle.smbus.proofs.Placing.{fits, told-written, told-unwritten, output-written, output-unwritten}
+use lib.ListN.{length}
+use Rattle.mctp.specs.Refusals.{outcomeNumber}
+use Rattle.smbus.specs.Writing.{writeRefusal}
+use Rattle.smbus.proofs.Writings.{Good, good}
+use Rattle.smbus.proofs.Answers.{says-written, says-unwritten}
 use borrow.Author.Needs.{needs}
 use Rattle.smbus.proofs.writing.write_within.Statement.{statement}
 use Rattle.smbus.proofs.writing.write_within.Tie as tie
 
+-- where the answer is good the number is 0
+zero : (c : tie.After-enum-told) → let a = c .before .before .before .before .before .args in
+    writeRefusal (a .most) (length (a .out .now)) (length (a .packet .now)) (a .destination) (a .source) ≡ 0
+zero c = sym (c .before .before .may-write .ensures) ∙ ap outcomeNumber (c .enum-told .given .1)
+
 fill-requires : tie.Need-fill-requires
-fill-requires c κs =
-    let f = fits _ _ _ _ _ (told-written _ _ _ _ _ _ (c .before .before .before .before .answer-for .ensures) _
-    (c .before .before .answer .given .1)) in
-    (f .to, f .by, omega arith, f .space)
+fill-requires c κs = let g = good _ _ _ _ _ (zero (c .before)) in omega arith
+
+add-t15 : tie.Need-add-t15
+add-t15 c = let g = good _ _ _ _ _ (zero (c .before .before .before .before)) in omega arith
 
 returns : tie.Need-returns
 returns c =
-    let a = c .before .before .before .before .before in (
-      sym (ap saysWritten (a .answer .given .1)) ∙ a .before .before .answer-for .ensures,
-      c .before .before .fill .ensures
-          ∙ sym (output-written _ _ _ _ _
-          (told-written _ _ _ _ _ _ (a .before .before .answer-for .ensures) _ (a .answer .given .1))),
-    )
+    let says = says-written _ _ _ _ _ (zero (c .before .before .before .before)) in
+    (says .0, (says .1 .0, c .before .before .fill .ensures ∙ says .1 .1))
 
 returns-2 : tie.Need-returns-2
 returns-2 c =
-    let a = c .before in (
-      sym (ap saysWritten (a .answer2 .given .1)) ∙ a .before .before .answer-for .ensures,
-      sym (output-unwritten _ _ _ _ _
-          (told-unwritten _ _ _ _ _ _ (a .before .before .answer-for .ensures) _ (a .answer2 .given .1))),
-    )
+    says-unwritten _ _ _ _ _ (c .before .allowed .given .0 .0)
+    (sym (c .before .before .before .may-write .ensures) ∙ ap outcomeNumber (c .before .allowed .given .1))
 
 pub write-within-spec : {M : Type 1} → statement M
 write-within-spec =
@@ -38,6 +39,7 @@ write-within-spec =
     (λ c κs. search needs)
     (λ c. search needs)
     fill-requires
+    add-t15
     (λ c. search needs)
     (λ c. search needs)
     returns
