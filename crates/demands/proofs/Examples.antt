@@ -27,7 +27,7 @@ use Rattle.pcc.proofs.Back.{every-number}
 use Rattle.mmbi.specs.declared.interface.Flags.{Flags}
 use Rattle.mmbi.specs.Interface.{flagsOf, normalRuntime, askedByHost, askedByController, stateOf, mayRead, mayWrite}
 use Rattle.descriptor.specs.declared.configuration.Area.the-variants.{B2h}
-use Rattle.descriptor.specs.Configuration.{areaPlace, inside, clear, ringRight, allowed}
+use Rattle.descriptor.specs.Configuration.{areaPlace, inside, clear, allowed}
 use Rattle.descriptor.proofs.Literal.{windowImage, imageConfiguration, image-found}
 use Rattle.window.specs.declared.word.Pointer.the-variants.{H2bWrite}
 use Rattle.window.specs.Window as window
@@ -124,7 +124,7 @@ a-write-stays-in-its-ring =
 
 -- 12: pointer 2 is no multiple of 4
 no-pointer : window.storeRefusal (length windowImage) imageConfiguration H2bWrite 2 ≡ 12
-unfolding window.storeRefusal allowed inside clear ringRight
+unfolding window.storeRefusal allowed inside clear
 no-pointer = refl
 
 pub not-stored : window.stored windowImage imageConfiguration H2bWrite

@@ -6,7 +6,7 @@ use mathlib.Core.Bool.{true, false}
 use mathlib.Core.List.{[], _∷_, map}
 use Prim.Native.Nat.{ℕ}
 use Rattle.descriptor.specs.declared.configuration.Configuration.{Configuration}
-use Rattle.descriptor.specs.Configuration.{inside, clear, ringRight, allowed}
+use Rattle.descriptor.specs.Configuration.{inside, clear, allowed}
 
 -- by its four bases: B2H with 260 bytes, H2B with 1,288, Host_ROS, Host_RWS
 abbrev based : ℕ → ℕ → ℕ → ℕ → Configuration
@@ -35,7 +35,7 @@ pub right :
     ∷ based 2064 520 0 8
     ∷ [])
     ≡ true ∷ true ∷ true ∷ true ∷ true ∷ true ∷ []
-unfolding allowed inside clear ringRight
+unfolding allowed inside clear
 right = refl
 
 -- "lie in the lent window": B2H, H2B, Host_ROS, Host_RWS past its end
@@ -47,7 +47,7 @@ pub past-the-end :
     ∷ based 2064 520 1808 4096
     ∷ [])
     ≡ false ∷ false ∷ false ∷ false ∷ []
-unfolding allowed inside clear ringRight
+unfolding allowed inside clear
 past-the-end = refl
 
 -- "the two rings overlap neither each other nor any of the other three": the rings, then each with the descriptor, with
@@ -63,14 +63,14 @@ pub overlapping :
     ∷ based 2064 520 1808 1800
     ∷ [])
     ≡ false ∷ false ∷ false ∷ false ∷ false ∷ false ∷ false ∷ []
-unfolding allowed inside clear ringRight
+unfolding allowed inside clear
 overlapping = refl
 
 -- "each ring length is a multiple of 4 from 128": B2H's, then H2B's
 pub lengths :
     map (allowed 4096) (sized 128 128 ∷ sized 124 128 ∷ sized 130 128 ∷ sized 128 124 ∷ sized 128 130 ∷ [])
     ≡ true ∷ false ∷ false ∷ false ∷ false ∷ []
-unfolding allowed inside clear ringRight
+unfolding allowed inside clear
 lengths = refl
 
 -- "bases in 8-byte units": each base 4 bytes further on
@@ -82,5 +82,5 @@ pub off-units :
     ∷ based 2064 520 1808 2052
     ∷ [])
     ≡ false ∷ false ∷ false ∷ false ∷ []
-unfolding allowed inside clear ringRight
+unfolding allowed inside clear
 off-units = refl

@@ -1,33 +1,20 @@
 -- The contracts leave no choice: two results that one allows on the same input are equal.
 -- Assumes nothing.
-use mathlib.Core.Path.{_≡_, ap}
+use mathlib.Core.Path.{_≡_}
 use mathlib.Core.Bool.{Bool}
 use Prim.Native.Nat.{ℕ}
-use native.Mathlib.Omega.{arith}
 use contract.Lifetimes.{Lfts}
 use Rattle.octets.proofs.Choice.{determined}
-use Rattle.mctp.specs.Refusals.{numberOf}
-use Rattle.mctp.proofs.Refusals.{number-injective}
 use Rattle.descriptor.specs.declared.place.Place.{Place}
 use Rattle.descriptor.specs.declared.reading.Configured.{Configured}
-use Rattle.descriptor.specs.declared.reading.Configured.the-variants.{Checked, Refused}
-use Rattle.descriptor.specs.Answers.{says}
 use Rattle.descriptor.proofs.reading.read_descriptor.Reads as read-descriptor
 use Rattle.descriptor.proofs.configuration.is_allowed.Reads as is-allowed
 use Rattle.descriptor.proofs.configuration.area_place.Reads as area-place
 use Rattle.descriptor.proofs.place.end.Reads as end
 
--- two answers that say the same are one answer
-pub says-injective : (a b : Configured) → says a ≡ says b → a ≡ b
-says-injective (Checked c) (Checked d) e = let same : c ≡ d = cc in ap Checked same
-says-injective (Checked c) (Refused r) e = let no : _≡_ {A = ℕ} 0 1 = cc in absurd (omega arith)
-says-injective (Refused r) (Checked d) e = let no : _≡_ {A = ℕ} 0 1 = cc in absurd (omega arith)
-says-injective (Refused r) (Refused t) e =
-    let same : numberOf r ≡ numberOf t = cc in ap Refused (number-injective r t same)
-
 pub read-descriptor-determined : (κs : Lfts 1) (a : _) (r q : Configured) (e f : _)
     → read-descriptor.Post κs a r e → read-descriptor.Post κs a q f → r ≡ q
-read-descriptor-determined κs a r q e f p o = says-injective r q (determined p o)
+read-descriptor-determined κs a r q e f p o = determined p o
 
 pub is-allowed-determined : (κs : Lfts 0) (a : _) (r q : Bool) (e f : _)
     → is-allowed.Post κs a r e → is-allowed.Post κs a q f → r ≡ q

@@ -1,13 +1,33 @@
 -- Reserved bits are ignored: windows that differ there alone get the same answer.
 -- Assumes nothing.
 use mathlib.Core.Path.{_≡_}
-use mathlib.Core.List.{List}
+use mathlib.Core.List.{List, [], _∷_, _++_}
 use Prim.Native.Nat.{ℕ, _+_, _%_}
 use native.Mathlib.Omega.{arith}
-use lib.ListN.{getD}
+use lib.ListN.{length, getD, replicate}
+use Rattle.octets.specs.Bytes.{Below}
 use Rattle.octets.specs.Words.{highFirst, wordAt}
-use Rattle.descriptor.specs.Descriptor.{signatureRight, baseAt, configurationIn, refusalOf, describedOf}
-use Rattle.descriptor.specs.Alike.{Alike}
+use Rattle.descriptor.specs.Reading.{signatureRight, baseAt, configurationIn, configuredOf}
+
+-- How much of each byte is looked at, as a divisor: 256 for all of it, 16 for the low four bits (version, buffer
+-- type), 32 for the low five (a base's bits 28..24), 1 for nothing ("Reserved", OS use, interrupts, and all that
+-- follows the descriptor)
+abbrev pub looked : List ℕ
+looked =
+    replicate 6 256 ++ (16 ∷ 1 ∷ [])
+    ++ (32 ∷ replicate 3 256)
+    ++ (32 ∷ replicate 3 256)
+    ++ replicate 8 256
+    ++ (16 ∷ replicate 7 1)
+    ++ (32 ∷ replicate 3 256)
+    ++ (32 ∷ replicate 3 256)
+
+-- windows that differ only where reading does not look
+pub record Alike (a b : List ℕ) : Type 0 where
+  pub lengths : length a ≡ length b
+  pub bytes : Below 256 a
+  pub bytes-too : Below 256 b
+  pub same : (i : ℕ) → getD a i 0 % getD looked i 1 ≡ getD b i 0 % getD looked i 1
 
 module _ (a b : List ℕ) (w : Alike a b) where
   -- a byte that is looked at whole
@@ -45,15 +65,9 @@ module _ (a b : List ℕ) (w : Alike a b) where
       let e = w .same in
       rw (whole 0 (e 0), whole 1 (e 1), whole 2 (e 2), whole 3 (e 3), whole 4 (e 4), whole 5 (e 5))
 
-  -- the same number
-  pub same-refusal : refusalOf a ≡ refusalOf b
-  unfolding refusalOf
-  same-refusal =
+  pub reserved-ignored : configuredOf a ≡ configuredOf b
+  unfolding configuredOf
+  reserved-ignored =
       let version : getD a 6 0 % 16 ≡ getD b 6 0 % 16 = w .same 6 in
       let kind : getD a 24 0 % 16 ≡ getD b 24 0 % 16 = w .same 24 in
       rw (w .lengths, signatures, version, kind, configurations)
-
-  -- and the same answer whole
-  pub reserved-ignored : describedOf a ≡ describedOf b
-  unfolding describedOf
-  reserved-ignored = rw (same-refusal, configurations)

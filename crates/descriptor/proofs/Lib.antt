@@ -1,8 +1,9 @@
 pub mod Places
 pub mod Configurations
-pub mod Refusals
-pub mod Ignored
-pub mod Determined
-pub mod Literal
-pub mod Borders
+pub mod Readings
 pub mod Stored
+pub mod Ignored
+pub mod Literal
+pub mod Order
+pub mod Borders
+pub mod Determined

@@ -1,17 +1,16 @@
--- Places: the tests on them are the facts.
+-- Places that overlap nowhere: the test is the fact.
 -- Assumes nothing.
 use mathlib.Core.Path.{_≡_, refl}
-use mathlib.Core.Bool.{Bool, true, false, _&&_, _||_, or-true}
+use mathlib.Core.Bool.{Bool, true, false, _||_, or-true}
 use mathlib.Core.Logic.{_⊎_, inl, inr}
 use Prim.Native.Nat.{ℕ, _≤_}
 use borrow.Author.Tests.{leb-true, le-leb}
 use lib.Dec.{leb}
 use Rattle.descriptor.specs.declared.place.Place.{Place}
-use Rattle.descriptor.specs.Places.{endOf, liesIn, apart, Apart}
+use Rattle.descriptor.specs.Places.{endOf, apart}
 
--- both tests of a pair
-pub and : {a b : Bool} → a ≡ true → b ≡ true → (a && b) ≡ true
-and p q = rw (p, q)
+abbrev pub Apart : Place → Place → Type 0
+Apart p q = (endOf p ≤ q .offset) ⊎ (endOf q ≤ p .offset)
 
 -- one of two tests
 either : (a b : Bool) → (a || b) ≡ true → (a ≡ true) ⊎ (b ≡ true)
@@ -28,9 +27,3 @@ apart-fact p q e = fact (either _ _ e)
 pub apart-holds : (p q : Place) → Apart p q → apart p q ≡ true
 apart-holds p q (inl h) = rw (le-leb (endOf p) (q .offset) h)
 apart-holds p q (inr h) = rw (le-leb (endOf q) (p .offset) h) (or-true (leb (endOf p) (q .offset)))
-
-pub lies-fact : (window : ℕ) (p : Place) → liesIn window p ≡ true → endOf p ≤ window
-lies-fact window p e = leb-true (endOf p) window e
-
-pub lies-holds : (window : ℕ) (p : Place) → endOf p ≤ window → liesIn window p ≡ true
-lies-holds window p h = le-leb (endOf p) window h

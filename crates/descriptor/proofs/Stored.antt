@@ -6,19 +6,20 @@ use mathlib.Core.Bool.{Bool, true, _&&_}
 use mathlib.Core.List.{List, [], _∷_, _++_}
 use Prim.Native.Nat.{ℕ, _-_, _*_, _/_, _%_, _^_, _≤_, _<_}
 use native.Mathlib.Omega.{arith}
-use borrow.Author.Tests.{ltb-true}
+use borrow.Author.Tests.{ltb-true, le-leb}
 use lib.Dec.{ltb}
 use lib.ListN.{length, replicate, length-replicate}
 use Rattle.octets.specs.Bytes.{Below}
 use Rattle.octets.specs.Words.{highFirst, wordAt, wordBytes}
 use Rattle.octets.proofs.Choice.{both}
+use Rattle.mmbi.specs.Pointers.{lengthRight}
 use Rattle.octets.proofs.Words.{word-back}
 use Rattle.octets.proofs.Below.{below-nil, below-cons, below-append, below-zeros, below-word}
 use Rattle.descriptor.specs.declared.configuration.Configuration.{Configuration}
 use Rattle.descriptor.specs.Configuration.{onUnits, allowed}
-use Rattle.descriptor.specs.Descriptor.{signatureRight, baseAt, configurationIn, found, describedOf}
-use Rattle.descriptor.proofs.Configurations.{allowed-facts}
-use Rattle.descriptor.proofs.Refusals.{refusal-none, described-found}
+use Rattle.descriptor.specs.declared.reading.Configured.the-variants.{Checked}
+use Rattle.descriptor.specs.Reading.{signatureRight, baseAt, configurationIn, configuredOf}
+use Rattle.descriptor.proofs.Configurations.{allowed-facts, length-bounds}
 
 unit : (n : ℕ) → n * 8 % 8 ≡ 0
 unit n = omega arith
@@ -98,8 +99,8 @@ module _ (n : ℕ) (c : Configuration) where
     base : (b : ℕ) → b % 8 ≡ 0 → b < 2 ^ 32 → wordAt highFirst (wordBytes highFirst (b / 8) ++ []) 0 % 536870912 * 8 ≡ b
     base b h k = rw (word-back highFirst (b / 8) [] (omega arith)) (base-back b h k)
 
-    size : (l : ℕ) → l ≤ 65536 → wordAt highFirst (wordBytes highFirst l ++ []) 0 ≡ l
-    size l h = word-back highFirst l [] (omega arith)
+    size : (l : ℕ) → lengthRight l ≡ true → wordAt highFirst (wordBytes highFirst l ++ []) 0 ≡ l
+    size l h = word-back highFirst l [] (omega (arith, length-bounds l h))
 
     for-configuration : configurationIn (windowFor n c) ≡ c
     unfolding configurationIn windowFor words wordAt wordBytes
@@ -108,8 +109,8 @@ module _ (n : ℕ) (c : Configuration) where
         let u = a .units in
         let b2h : baseAt (windowFor n c) 8 ≡ c .b2h .offset = base (c .b2h .offset) (u .b2h) (bases .b2h) in
         let h2b : baseAt (windowFor n c) 12 ≡ c .h2b .offset = base (c .h2b .offset) (u .h2b) (bases .h2b) in
-        let one : wordAt highFirst (windowFor n c) 16 ≡ c .b2h .length = size (c .b2h .length) (a .b2h-right .most) in
-        let other : wordAt highFirst (windowFor n c) 20 ≡ c .h2b .length = size (c .h2b .length) (a .h2b-right .most) in
+        let one : wordAt highFirst (windowFor n c) 16 ≡ c .b2h .length = size (c .b2h .length) (a .b2h-right) in
+        let other : wordAt highFirst (windowFor n c) 20 ≡ c .h2b .length = size (c .h2b .length) (a .h2b-right) in
         let ros : baseAt (windowFor n c) 32 ≡ c .ros = base (c .ros) (u .ros) (bases .ros) in
         let rws : baseAt (windowFor n c) 36 ≡ c .rws = base (c .rws) (u .rws) (bases .rws) in
         λ i. record {
@@ -119,16 +120,14 @@ module _ (n : ℕ) (c : Configuration) where
           rws = rws i;
         }
 
-    for-described : describedOf (windowFor n c) ≡ found c
-    unfolding windowFor words signatureRight wordBytes
-    for-described =
+    for-configured : configuredOf (windowFor n c) ≡ Checked c
+    unfolding configuredOf windowFor words signatureRight wordBytes
+    for-configured =
         let long : 64 ≤ n = allowed-facts n c ok .descriptor in
         let size : length (windowFor n c) ≡ n = for-length (omega arith) in
-        let same : allowed (length (windowFor n c)) (configurationIn (windowFor n c)) ≡ true =
-        rw (size, for-configuration) ok in
-        described-found _ (refusal-none _ (rw size long) refl refl refl same) ∙ ap found for-configuration
+        rw (size, le-leb 64 n long, for-configuration, ok)
 
     -- it has n bytes, and its descriptor gives this configuration
-    pub given-by-a-descriptor : (s : List ℕ) × (length s ≡ n) × Below 256 s × (describedOf s ≡ found c)
+    pub given-by-a-descriptor : (s : List ℕ) × (length s ≡ n) × Below 256 s × (configuredOf s ≡ Checked c)
     given-by-a-descriptor =
-        (windowFor n c, for-length (omega (arith, allowed-facts n c ok .descriptor)), for-bytes, for-described)
+        (windowFor n c, for-length (omega (arith, allowed-facts n c ok .descriptor)), for-bytes, for-configured)

@@ -1,5 +1,3 @@
 pub mod Places
 pub mod Configuration
-pub mod Descriptor
-pub mod Answers
-pub mod Alike
+pub mod Reading

@@ -1,8 +1,7 @@
 -- Places in a window: where one begins and how long it is, in bytes from the window's front.
 -- Assumes nothing.
-use Prim.Native.Nat.{ℕ, _+_, _≤_}
+use Prim.Native.Nat.{ℕ, _+_}
 use mathlib.Core.Bool.{Bool, _||_}
-use mathlib.Core.Logic.{_⊎_}
 use lib.Dec.{leb}
 use Rattle.descriptor.specs.declared.place.Place.{Place}
 
@@ -17,7 +16,3 @@ liesIn window p = leb (endOf p) window
 -- two places overlap nowhere: one ends before the other begins
 abbrev pub apart : Place → Place → Bool
 apart p q = leb (endOf p) (q .offset) || leb (endOf q) (p .offset)
-
--- the same as a fact
-abbrev pub Apart : Place → Place → Type 0
-Apart p q = (endOf p ≤ q .offset) ⊎ (endOf q ≤ p .offset)

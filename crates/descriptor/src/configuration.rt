@@ -3,8 +3,8 @@ use crate::place::Place;
 use crate::place::are_apart;
 use crate::place::lies_in;
 ghost use mathlib.Core.Path.{_≡_};
-ghost use Rattle.descriptor.specs.Configuration.{structureAt, descriptorPlace, areaPlace, ringRight, inside};
-ghost use Rattle.descriptor.specs.Configuration.{clear, onUnits, allowed};
+ghost use Rattle.descriptor.specs.Configuration.{structureAt, descriptorPlace, areaPlace, inside, clear, onUnits};
+ghost use Rattle.descriptor.specs.Configuration.{allowed};
 
 // B2H and H2B are the rings from the controller to the host and back; `ros` and `rws` are the offsets of Host_ROS and
 // Host_RWS.
@@ -23,22 +23,20 @@ pub enum Area {
     Rws,
 }
 
-fn structure_at(offset: u32) -> Place
-    ensures { λ r. ⌜ r ≡ structureAt offset ⌝ }
+// Whether document 01's list lets this configuration be used in a window of this size.
+pub fn is_allowed(window: usize, c: Configuration) -> bool
+    ensures { λ r. ⌜ r ≡ allowed window c ⌝ }
 {
-    Place { offset, length: 8 }
+    is_inside(window, c)
+        & are_apart(c.b2h, c.h2b)
+        & is_clear(c, c.b2h)
+        & is_clear(c, c.h2b)
+        & mmbi::length_right(c.b2h.length as usize)
+        & mmbi::length_right(c.h2b.length as usize)
+        & on_units(c)
 }
 
-fn descriptor() -> Place
-    ensures { λ r. ⌜ r ≡ descriptorPlace ⌝ }
-{
-    Place {
-        offset: 0,
-        length: 64,
-    }
-}
-
-// Where this part lies by the configuration alone.
+// Where this area lies by the configuration alone.
 pub fn area_place(c: Configuration, which: Area) -> Place
     ensures { λ r. ⌜ r ≡ areaPlace c which ⌝ }
 {
@@ -48,12 +46,6 @@ pub fn area_place(c: Configuration, which: Area) -> Place
         Area::Ros => structure_at(c.ros),
         Area::Rws => structure_at(c.rws),
     }
-}
-
-fn ring_right(ring: Place) -> bool
-    ensures { λ r. ⌜ r ≡ ringRight ring ⌝ }
-{
-    (128 <= ring.length) & (ring.length <= 65536) & (ring.length % 4 == 0)
 }
 
 fn is_inside(window: usize, c: Configuration) -> bool
@@ -81,15 +73,17 @@ fn on_units(c: Configuration) -> bool
     (c.b2h.offset % 8 == 0) & (c.h2b.offset % 8 == 0) & (c.ros % 8 == 0) & (c.rws % 8 == 0)
 }
 
-// Whether document 01's list lets this configuration be used in a window of this size.
-pub fn is_allowed(window: usize, c: Configuration) -> bool
-    ensures { λ r. ⌜ r ≡ allowed window c ⌝ }
+fn descriptor() -> Place
+    ensures { λ r. ⌜ r ≡ descriptorPlace ⌝ }
 {
-    is_inside(window, c)
-        & are_apart(c.b2h, c.h2b)
-        & is_clear(c, c.b2h)
-        & is_clear(c, c.h2b)
-        & ring_right(c.b2h)
-        & ring_right(c.h2b)
-        & on_units(c)
+    Place {
+        offset: 0,
+        length: 64,
+    }
+}
+
+fn structure_at(offset: u32) -> Place
+    ensures { λ r. ⌜ r ≡ structureAt offset ⌝ }
+{
+    Place { offset, length: 8 }
 }

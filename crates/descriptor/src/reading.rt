@@ -4,9 +4,8 @@ use crate::configuration::is_allowed;
 use crate::place::Place;
 use mctp::Refusal;
 ghost use mathlib.Core.Path.{_≡_};
-ghost use Rattle.descriptor.specs.Descriptor.{signatureRight, versionRight, typeRight, baseAt, configurationIn};
-ghost use Rattle.descriptor.specs.Descriptor.{describedOf};
-ghost use Rattle.descriptor.specs.Answers.{says};
+ghost use Rattle.descriptor.specs.Reading.{signatureRight, versionRight, typeRight, baseAt, configurationIn};
+ghost use Rattle.descriptor.specs.Reading.{configuredOf};
 
 pub enum Configured {
     Checked(Configuration),
@@ -14,22 +13,15 @@ pub enum Configured {
 }
 
 pub fn read_descriptor(window: &[u8]) -> Configured
-    ensures { λ r. ⌜ says r ≡ describedOf (now (window .entry)) ⌝ }
+    ensures { λ r. ⌜ r ≡ configuredOf (now (window .entry)) ⌝ }
 {
-    if window.len() < 64 {
+    let signed = (64 <= window.len()) & has_signature(window);
+    if !signed {
         return Configured::Refused(Refusal::Signature);
-    }
-    if !has_signature(window) {
-        return Configured::Refused(Refusal::Signature);
-    }
-    if !has_version(window) {
-        return Configured::Refused(Refusal::Descriptor);
-    }
-    if !has_type(window) {
-        return Configured::Refused(Refusal::Descriptor);
     }
     let c = configuration_in(window);
-    if !is_allowed(window.len(), c) {
+    let right = has_version(window) & has_type(window) & is_allowed(window.len(), c);
+    if !right {
         return Configured::Refused(Refusal::Descriptor);
     }
     Configured::Checked(c)

@@ -7,16 +7,18 @@ use Prim.Native.Nat.{ℕ, _+_, _-_, _≤_}
 use native.Mathlib.Omega.{arith}
 use lib.ListN.{length, take, drop, length-take, length-drop}
 use Rattle.octets.specs.Choice.{pick}
+use Rattle.mmbi.specs.Pointers.{lengthRight}
 use Rattle.descriptor.specs.declared.place.Place.{Place}
 use Rattle.descriptor.specs.declared.configuration.Configuration.{Configuration}
 use Rattle.descriptor.specs.declared.configuration.Area.{Area}
 use Rattle.descriptor.specs.declared.configuration.Area.the-variants.{B2h, H2b, Ros, Rws}
 use Rattle.descriptor.specs.Places.{endOf}
-use Rattle.descriptor.specs.Configuration.{areaPlace, isRing, allowed, RingRight, Allowed}
-use Rattle.descriptor.specs.Descriptor.{found, describedOf}
+use Rattle.descriptor.specs.declared.reading.Configured.the-variants.{Checked}
+use Rattle.descriptor.specs.Configuration.{areaPlace, isRing, allowed}
+use Rattle.descriptor.specs.Reading.{configuredOf}
 use Rattle.window.specs.Window.{placeIn, bytesAt, areaOf}
-use Rattle.descriptor.proofs.Configurations.{allowed-facts}
-use Rattle.descriptor.proofs.Refusals.{found-allowed}
+use Rattle.descriptor.proofs.Configurations.{Allowed, allowed-facts}
+use Rattle.descriptor.proofs.Readings.{found-allowed}
 
 -- every area of an allowed configuration lies in the window
 pub area-fits : (window : ℕ) (c : Configuration) (area : Area) → Allowed window c → endOf (areaPlace c area) ≤ window
@@ -61,7 +63,7 @@ area-refused s c area e = rw e
 
 -- "each ring length is a multiple of 4 from 128 to 65,536"
 pub ring-right : (window : ℕ) (c : Configuration) (area : Area) → isRing area ≡ true → Allowed window c
-    → RingRight (areaPlace c area)
+    → lengthRight (areaPlace c area .length) ≡ true
 ring-right window c B2h e a = a .b2h-right
 ring-right window c H2b e a = a .h2b-right
 ring-right window c Ros e a = absurd (false≢true e)
@@ -69,10 +71,10 @@ ring-right window c Rws e a = absurd (false≢true e)
 
 -- a ring cut out by an allowed configuration has its length, and that length is right
 pub ring-cut : (s : List ℕ) (c : Configuration) (area : Area) → isRing area ≡ true → allowed (length s) c ≡ true
-    → (length (areaOf s c area) ≡ areaPlace c area .length) × RingRight (areaPlace c area)
+    → (length (areaOf s c area) ≡ areaPlace c area .length) × (lengthRight (areaPlace c area .length) ≡ true)
 ring-cut s c area r e = (area-length s c area e, ring-right (length s) c area r (allowed-facts (length s) c e))
 
 -- a ring cut out by a configuration that reading has found in this window
-pub found-ring-cut : (s : List ℕ) (c : Configuration) (area : Area) → isRing area ≡ true → describedOf s ≡ found c
-    → (length (areaOf s c area) ≡ areaPlace c area .length) × RingRight (areaPlace c area)
+pub found-ring-cut : (s : List ℕ) (c : Configuration) (area : Area) → isRing area ≡ true → configuredOf s ≡ Checked c
+    → (length (areaOf s c area) ≡ areaPlace c area .length) × (lengthRight (areaPlace c area .length) ≡ true)
 found-ring-cut s c area r e = ring-cut s c area r (found-allowed s c e)

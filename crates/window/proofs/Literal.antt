@@ -12,7 +12,7 @@ use Rattle.mmbi.specs.Interface.{flagsOf}
 use Rattle.mmbi.specs.Words.{wordOf, numberOf}
 use Rattle.descriptor.specs.declared.configuration.Configuration.{Configuration}
 use Rattle.descriptor.specs.declared.configuration.Area.the-variants.{B2h, H2b, Ros, Rws}
-use Rattle.descriptor.specs.Configuration.{inside, clear, ringRight, allowed}
+use Rattle.descriptor.specs.Configuration.{inside, clear, allowed}
 use Rattle.descriptor.proofs.Literal.{descriptorImage, rosImage, windowImage, imageConfiguration}
 use Rattle.window.specs.declared.word.Pointer.{Pointer}
 use Rattle.window.specs.declared.word.Pointer.the-variants.{H2bWrite, B2hRead, B2hWrite, H2bRead}
@@ -22,11 +22,11 @@ use Rattle.window.specs.Window.{storedPointer}
 
 -- 1 in a window one byte too short; nothing lies there then
 pub image-setup : map (λ (n : ℕ). setupOf n imageConfiguration) (339 ∷ 340 ∷ []) ≡ 1 ∷ 0 ∷ []
-unfolding setupOf allowed inside clear ringRight
+unfolding setupOf allowed inside clear
 image-setup = refl
 
 pub image-nowhere : placeIn 339 imageConfiguration H2b ≡ record { offset = 0; length = 0 }
-unfolding placeIn allowed inside clear ringRight
+unfolding placeIn allowed inside clear
 image-nowhere = refl
 
 -- where the four areas lie, and what stands in the structures
@@ -36,7 +36,7 @@ pub image-places : map (placeIn 340 imageConfiguration) (B2h ∷ H2b ∷ Ros ∷
     ∷ record { offset = 64; length = 8 }
     ∷ record { offset = 72; length = 8 }
     ∷ []
-unfolding placeIn allowed inside clear ringRight
+unfolding placeIn allowed inside clear
 image-places = refl
 
 pub image-parts : map (areaOf windowImage imageConfiguration) (B2h ∷ H2b ∷ Ros ∷ Rws ∷ [])
@@ -45,7 +45,7 @@ pub image-parts : map (areaOf windowImage imageConfiguration) (B2h ∷ H2b ∷ R
     ∷ (0 ∷ 0 ∷ 0 ∷ 18 ∷ 0 ∷ 0 ∷ 0 ∷ 9 ∷ [])
     ∷ (0 ∷ 0 ∷ 0 ∷ 34 ∷ 0 ∷ 0 ∷ 0 ∷ 5 ∷ [])
     ∷ []
-unfolding areaOf placeIn allowed inside clear ringRight
+unfolding areaOf placeIn allowed inside clear
 image-parts = refl
 
 -- both words of Host_RWS and of Host_ROS
@@ -58,13 +58,13 @@ pub image-words :
       «host_ready» = true;
       «controller_ready» = true;
     }
-unfolding interfaceIn wordIn cleared wordOf allowed inside clear ringRight wordAt
+unfolding interfaceIn wordIn cleared wordOf allowed inside clear wordAt
 image-words = refl
 
 -- H2B_WP moved on to 36: H_UP stays (00 00 00 26)
 pub image-stored : storedPointer windowImage imageConfiguration H2bWrite 36
     ≡ descriptorImage ++ (rosImage ++ (0 ∷ 0 ∷ 0 ∷ 38 ∷ 0 ∷ 0 ∷ 0 ∷ 5 ∷ []) ++ replicate 260 0)
-unfolding storedPointer stored storeRefusal wordIn cleared wordOf numberOf allowed inside clear ringRight wordAt
+unfolding storedPointer stored storeRefusal wordIn cleared wordOf numberOf allowed inside clear wordAt
     wordBytes laid
 image-stored = refl
 
@@ -106,7 +106,7 @@ pub each-flag :
     ∷ flagged false false false false true false
     ∷ flagged false false false false false false
     ∷ []
-unfolding interfaceIn wordIn cleared wordOf allowed inside clear ringRight wordAt
+unfolding interfaceIn wordIn cleared wordOf allowed inside clear wordAt
 each-flag = refl
 
 -- pointers of four bytes, no two alike: 01020304, 05060708, 090A0B0C, 0D0E0F10
@@ -121,7 +121,7 @@ pub four-pointers :
       «host_ready» = false;
       «controller_ready» = false;
     }
-unfolding interfaceIn wordIn cleared wordOf allowed inside clear ringRight wordAt
+unfolding interfaceIn wordIn cleared wordOf allowed inside clear wordAt
 four-pointers = refl
 
 -- a window of bytes EE with room for larger pointers: Host_ROS at 64, Host_RWS at 72, B2H of 1,024 bytes, H2B of 2,048
@@ -153,7 +153,7 @@ pub each-store :
     ∷ ((0 ∷ 0 ∷ 3 ∷ 5 ∷ kept 12) ++ (kept 4 ++ (0 ∷ 0 ∷ 3 ∷ 5 ∷ kept 8)) ++ (kept 8 ++ (0 ∷ 0 ∷ 3 ∷ 5 ∷ kept 4))
     ++ (kept 12 ++ (0 ∷ 0 ∷ 3 ∷ 5 ∷ [])))
     ∷ []
-unfolding stored storeRefusal cleared numberOf allowed inside clear ringRight wordBytes laid
+unfolding stored storeRefusal cleared numberOf allowed inside clear wordBytes laid
 each-store = refl
 
 -- 12 at each ring's own length, by the words in the order of Host_RWS and Host_ROS, and for what is no multiple of 4
@@ -168,18 +168,18 @@ pub each-limit :
     ∷ (0 ∷ 12 ∷ 12 ∷ 0 ∷ [])
     ∷ (12 ∷ 12 ∷ 12 ∷ 12 ∷ [])
     ∷ []
-unfolding storeRefusal allowed inside clear ringRight
+unfolding storeRefusal allowed inside clear
 each-limit = refl
 
 -- 1 comes before 12: a window one byte too short, and a pointer that no ring has
 pub setup-first : storeRefusal 3151 wide H2bWrite 2 ≡ 1
-unfolding storeRefusal allowed inside clear ringRight
+unfolding storeRefusal allowed inside clear
 setup-first = refl
 
 -- B2H_RP moved on to 8 where its word is 00 00 00 07: H_RDY stays, the reserved bit doesn't
 pub reserved-cleared : take 16
     (drop 64 (storedPointer (withWords (bit0 0) (bit0 0) (bit0 0) (bit0 7)) imageConfiguration B2hRead 8))
     ≡ replicate 15 0 ++ (9 ∷ [])
-unfolding storedPointer stored storeRefusal wordIn cleared wordOf numberOf allowed inside clear ringRight wordAt
+unfolding storedPointer stored storeRefusal wordIn cleared wordOf numberOf allowed inside clear wordAt
     wordBytes laid
 reserved-cleared = refl

@@ -13,9 +13,10 @@ use Rattle.octets.proofs.Laid.{laid-fits, laid-length}
 use Rattle.descriptor.specs.declared.configuration.Configuration.{Configuration}
 use Rattle.descriptor.specs.declared.configuration.Area.{Area}
 use Rattle.descriptor.specs.declared.configuration.Area.the-variants.{B2h, H2b, Ros, Rws}
-use Rattle.descriptor.specs.Places.{endOf, Apart}
-use Rattle.descriptor.specs.Configuration.{areaPlace, isRing, allowed, Allowed, RingRight}
-use Rattle.descriptor.proofs.Configurations.{allowed-facts}
+use Rattle.descriptor.specs.Places.{endOf}
+use Rattle.descriptor.specs.Configuration.{areaPlace, isRing, allowed}
+use Rattle.descriptor.proofs.Places.{Apart}
+use Rattle.descriptor.proofs.Configurations.{Allowed, allowed-facts, length-bounds}
 use Rattle.window.specs.declared.word.Pointer.{Pointer}
 use Rattle.window.specs.declared.word.Pointer.the-variants.{H2bWrite, B2hRead, B2hWrite, H2bRead}
 use Rattle.window.specs.Window.{placeIn, areaOf, putBack, wordPlace, wordIn, interfaceIn, RingChanged}
@@ -71,9 +72,9 @@ module _ (s : List ℕ) (c : Configuration) (ring : Area) (bytes : List ℕ) (is
   -- the descriptor
   descriptor-stays : take 64 (putBack s c ring bytes) ≡ take 64 s
   descriptor-stays =
-      let right : RingRight (areaPlace c ring) = ring-right (length s) c ring is facts in
+      let right = length-bounds (areaPlace c ring .length) (ring-right (length s) c ring is facts) in
       laid-beside s (areaPlace c ring .offset) bytes 0 64
-      (⊎-elim (λ (h : _). absurd (omega (arith, right .least))) (λ (h : _). inr h)
+      (⊎-elim (λ (h : _). absurd (omega (arith, right))) (λ (h : _). inr h)
       (ring-clear (length s) c ring is facts .descriptor))
 
   word-stays : (p : Pointer) → wordIn (putBack s c ring bytes) c p ≡ wordIn s c p

@@ -25,10 +25,10 @@ use Rattle.descriptor.specs.declared.configuration.Area.{Area}
 use Rattle.descriptor.specs.declared.configuration.Area.the-variants.{B2h, H2b, Ros, Rws}
 use Rattle.window.specs.declared.word.Pointer.{Pointer}
 use Rattle.window.specs.declared.word.Pointer.the-variants.{H2bWrite, B2hRead, B2hWrite, H2bRead}
-use Rattle.descriptor.specs.Configuration.{areaPlace, isRing, allowed, Clear, Allowed}
+use Rattle.descriptor.specs.Configuration.{areaPlace, isRing, allowed}
 use Rattle.window.specs.Window.{placeIn, bytesAt, areaOf, wordPlace, hasUp, cleared, wordIn, pointsInto}
 use Rattle.window.specs.Window.{storeRefusal, withWord, stored, storedPointer}
-use Rattle.descriptor.proofs.Configurations.{allowed-facts}
+use Rattle.descriptor.proofs.Configurations.{Clear, Allowed, allowed-facts, length-bounds}
 use Rattle.window.proofs.Areas.{ring-right}
 use Rattle.window.proofs.LaidWords.{laid-word, laid-beside, laid-word-beside, word-length}
 
@@ -119,9 +119,10 @@ module _ (s : List ℕ) (c : Configuration) (p : Pointer) (w : Word)
   unfolding cleared
   stored-back =
       let pointer = store-facts (length s) c p (w .pointer) good .1 in
-      let bit1 = ring-right (length s) c (pointsInto p) (points-into-ring p) (allowed-facts (length s) c ok) .most in
+      let right = ring-right (length s) c (pointsInto p) (points-into-ring p) (allowed-facts (length s) c ok) in
+      let n = areaPlace c (pointsInto p) .length in
       word-stored
-      ∙ ap (cleared p) (word-back (cleared p w) (pointer .fours) (omega (arith, pointer .below, bit1)))
+      ∙ ap (cleared p) (word-back (cleared p w) (pointer .fours) (omega (arith, pointer .below, length-bounds n right)))
       ∙ cleared-twice p w
 
 -- a pointer stored alone reads back, and loses no flag

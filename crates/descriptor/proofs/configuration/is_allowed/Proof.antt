@@ -8,10 +8,17 @@ use Rattle.descriptor.proofs.configuration.is_allowed.Tie as tie
 returns : tie.Need-returns
 unfolding allowed
 returns c =
-    let r = c .before .before in
-    let p = r .before .before in
-    rw (c .on-units .ensures, c .before .ring-right2 .ensures, r .ring-right .ensures, r .before .is-clear2 .ensures)
-    (rw (p .is-clear .ensures, p .before .are-apart .ensures, p .before .before .is-inside .ensures))
+    let lengths = c .before in
+    let places = lengths .before .before .before .before in
+    rw (
+      c .on-units .ensures,
+      lengths .length-right2 .ensures,
+      lengths .before .before .length-right .ensures,
+      places .is-clear2 .ensures,
+      places .before .is-clear .ensures,
+      places .before .before .are-apart .ensures,
+      places .before .before .before .is-inside .ensures,
+    )
 
 pub is-allowed-spec : {M : Type 1} → statement M
 is-allowed-spec =
@@ -21,7 +28,9 @@ is-allowed-spec =
     (λ c κs. search needs)
     (λ c κs. search needs)
     (λ c κs. search needs)
+    (λ c. search needs)
     (λ c κs. search needs)
+    (λ c. search needs)
     (λ c κs. search needs)
     (λ c κs. search needs)
     returns)

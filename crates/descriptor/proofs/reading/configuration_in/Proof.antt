@@ -1,6 +1,6 @@
 -- `descriptor::reading::configuration_in` meets its contract.
 -- Assumes nothing.
-use Rattle.descriptor.specs.Descriptor.{configurationIn}
+use Rattle.descriptor.specs.Reading.{configurationIn}
 use borrow.Author.Needs.{needs}
 use Rattle.descriptor.proofs.reading.configuration_in.Statement.{statement}
 use Rattle.descriptor.proofs.reading.configuration_in.Tie as tie

@@ -1,6 +1,6 @@
 -- `descriptor::reading::has_signature` meets its contract.
 -- Assumes nothing.
-use Rattle.descriptor.specs.Descriptor.{signatureRight}
+use Rattle.descriptor.specs.Reading.{signatureRight}
 use borrow.Author.Needs.{needs}
 use Rattle.descriptor.proofs.reading.has_signature.Statement.{statement}
 use Rattle.descriptor.proofs.reading.has_signature.Tie as tie

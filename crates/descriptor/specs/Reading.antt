@@ -1,16 +1,18 @@
 -- The descriptor at the window's front (003, Tables 1 and 2), and which ones are accepted (document 01). Fields are
 -- big endian (003, 4.2).
 -- Assumes nothing.
-use mathlib.Core.Path.{_≡_}
-use Prim.Native.Nat.{ℕ, _*_, _%_, _≤_}
-use mathlib.Core.Bool.{Bool, true, not, _&&_}
-use mathlib.Core.List.{List}
-use lib.Dec.{eqb, ltb}
+use Prim.Native.Nat.{ℕ, _*_, _%_}
+use mathlib.Core.Bool.{Bool, _&&_}
+use mathlib.Core.List.{List, [], _∷_}
+use lib.Dec.{eqb, leb}
 use lib.ListN.{length, getD}
-use Rattle.octets.specs.Choice.{pick}
+use Rattle.octets.specs.Checks.{Check, _unless_, firstFailing}
 use Rattle.octets.specs.Words.{highFirst, wordAt}
-use Rattle.descriptor.specs.Configuration.{allowed, Allowed}
+use Rattle.mctp.specs.declared.refusal.Refusal.the-variants.{Signature, Descriptor}
+use Rattle.descriptor.specs.Configuration.{allowed}
 use Rattle.descriptor.specs.declared.configuration.Configuration.{Configuration}
+use Rattle.descriptor.specs.declared.reading.Configured.{Configured}
+use Rattle.descriptor.specs.declared.reading.Configured.the-variants.{Checked, Refused}
 
 -- "signature `#MMBI$`", in ASCII 23 4D 4D 42 49 24
 unfoldable pub signatureRight : List ℕ → Bool
@@ -46,30 +48,12 @@ configurationIn s =
     }
 
 -- "Otherwise 9 for the signature or a window too short to hold the descriptor, else 10."
-unfoldable pub refusalOf : List ℕ → ℕ
-refusalOf s =
-    pick (ltb (length s) 64) 9
-    (pick (not (signatureRight s)) 9
-    (pick (not (versionRight s)) 10
-    (pick (not (typeRight s)) 10
-    (pick (not (allowed (length s) (configurationIn s))) 10 0))))
+abbrev pub readOrder : List ℕ → List (Check Configured)
+readOrder s =
+    Refused Signature unless (leb 64 (length s) && signatureRight s)
+    ∷ Refused Descriptor unless (versionRight s && typeRight s && allowed (length s) (configurationIn s))
+    ∷ []
 
--- what reading gives: a configuration, or a refusal's number
-pub data Described : Type 0 where
-  found : Configuration → Described
-  refused : ℕ → Described
-
-unfoldable pub describedOf : List ℕ → Described
-describedOf s = pick (eqb (refusalOf s) 0) (found (configurationIn s)) (refused (refusalOf s))
-
--- what makes a descriptor good
-pub record Good (s : List ℕ) : Type 0 where
-  pub long : 64 ≤ length s
-  pub signed : signatureRight s ≡ true
-  pub version : getD s 6 0 % 16 ≡ 1
-  pub kind : getD s 24 0 % 16 ≡ 1
-  pub places : Allowed (length s) (configurationIn s)
-
--- "Base 2^29 − 1", of the ring whose base stands at this byte
-abbrev pub FarBase : List ℕ → ℕ → Type 0
-FarBase s at = wordAt highFirst s at % 536870912 ≡ 536870911
+-- what reading gives
+unfoldable pub configuredOf : List ℕ → Configured
+configuredOf s = firstFailing (readOrder s) (Checked (configurationIn s))

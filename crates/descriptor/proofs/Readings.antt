@@ -1,0 +1,109 @@
+-- Reading a descriptor: what each check answers, what a good one has, and the far base of document 01.
+-- Assumes nothing.
+use mathlib.Core.Path.{_≡_, refl, ap}
+use mathlib.Core.Bool.{Bool, true, false, _&&_, and-false}
+use mathlib.Core.List.{List, [], _∷_}
+use mathlib.Core.Logic.{_⊎_, inl, inr}
+use Prim.Native.Nat.{ℕ, _%_, _^_, _≤_}
+use native.Mathlib.Omega.{arith}
+use borrow.Author.Tests.{le-leb, leb-true, eqb-true}
+use lib.Dec.{leb}
+use lib.ListN.{length, getD}
+use Rattle.octets.specs.Words.{highFirst, wordAt}
+use Rattle.octets.proofs.Checks.{Hold, FailsAt, answerAt, first-failing, none-failing, all-hold}
+use Rattle.mctp.specs.declared.refusal.Refusal.the-variants.{Descriptor}
+use Rattle.descriptor.specs.declared.configuration.Configuration.{Configuration}
+use Rattle.descriptor.specs.declared.reading.Configured.{Configured}
+use Rattle.descriptor.specs.declared.reading.Configured.the-variants.{Checked, Refused}
+use Rattle.descriptor.specs.Configuration.{allowed}
+use Rattle.descriptor.specs.Reading.{signatureRight, versionRight, typeRight, configurationIn, readOrder}
+use Rattle.descriptor.specs.Reading.{configuredOf}
+use Rattle.descriptor.proofs.Configurations.{Allowed, allowed-facts, allowed-holds, length-bounds, each}
+
+-- what makes a descriptor good
+pub record Good (s : List ℕ) : Type 0 where
+  pub long : 64 ≤ length s
+  pub signed : signatureRight s ≡ true
+  pub version : getD s 6 0 % 16 ≡ 1
+  pub kind : getD s 24 0 % 16 ≡ 1
+  pub places : Allowed (length s) (configurationIn s)
+
+-- "Base 2^29 − 1", of the ring whose base stands at this byte
+abbrev pub FarBase : List ℕ → ℕ → Type 0
+FarBase s at = wordAt highFirst s at % 536870912 ≡ 536870911
+
+abbrev isChecked : Configured → Bool
+isChecked (Checked c) = true
+isChecked (Refused why) = false
+
+module _ (s : List ℕ) where
+  -- the first check that fails answers
+  pub refused-at : (i : ℕ) → FailsAt (readOrder s) i
+      → configuredOf s ≡ answerAt (readOrder s) (Checked (configurationIn s)) i
+  unfolding configuredOf
+  refused-at i f = first-failing (readOrder s) (Checked (configurationIn s)) i f
+
+  pub none-fails : Hold (readOrder s) → configuredOf s ≡ Checked (configurationIn s)
+  unfolding configuredOf
+  none-fails h = none-failing (readOrder s) (Checked (configurationIn s)) h
+
+  -- all the facts of a good one, from the tests and back
+  held-good : Hold (readOrder s) → Good s
+  held-good (front, (rest, end)) =
+      let f = each (leb 64 (length s)) (signatureRight s ∷ []) front in
+      let r = each (versionRight s) (typeRight s ∷ allowed (length s) (configurationIn s) ∷ []) rest in
+      record {
+        long = leb-true _ _ (f 0);
+        signed = f 1;
+        version = eqb-true _ _ (r 0);
+        kind = eqb-true _ _ (r 1);
+        places = allowed-facts (length s) (configurationIn s) (r 2);
+      }
+
+  pub accepted : Good s → configuredOf s ≡ Checked (configurationIn s)
+  unfolding configuredOf
+  accepted g =
+      rw (
+        le-leb 64 (length s) (g .long),
+        g .signed,
+        g .version,
+        g .kind,
+        allowed-holds (length s) (configurationIn s) (g .places),
+      )
+
+  module _ (c : Configuration) (e : configuredOf s ≡ Checked c) where
+    held : Hold (readOrder s)
+    unfolding configuredOf
+    held = all-hold isChecked (readOrder s) (Checked (configurationIn s)) refl (ap isChecked e)
+
+    pub good : Good s
+    good = held-good held
+
+    -- a configuration that reading has found is allowed in that window
+    pub found-allowed : allowed (length s) c ≡ true
+    found-allowed =
+        let same : configurationIn s ≡ c = cc (none-fails held, e) in
+        rw same at (allowed-holds (length s) (configurationIn s) (good .places))
+
+-- up to 4 GiB no window has such a ring
+never-far : (s : List ℕ) → length s ≤ 2 ^ 32 → FarBase s 8 ⊎ FarBase s 12
+    → Allowed (length s) (configurationIn s) → ⊥
+unfolding configurationIn
+never-far s small (inl h) a = omega (arith, a .b2h, length-bounds (configurationIn s .b2h .length) (a .b2h-right))
+never-far s small (inr h) a = omega (arith, a .h2b, length-bounds (configurationIn s .h2b .length) (a .h2b-right))
+
+-- "Base 2^29 − 1 .. In any window up to 4 GiB it is refused with 10.": of either ring
+pub far-ring : (s : List ℕ) → 64 ≤ length s → length s ≤ 2 ^ 32 → signatureRight s ≡ true → FarBase s 8 ⊎ FarBase s 12
+    → configuredOf s ≡ Refused Descriptor
+unfolding configuredOf
+far-ring s long small signed far =
+    rw (
+      le-leb 64 (length s) long,
+      signed,
+      failed (allowed (length s) (configurationIn s)) (λ (e : _). never-far s small far (allowed-facts _ _ e)),
+      and-false (versionRight s && typeRight s),
+    )
+  where
+    failed : (t : Bool) → (t ≡ true → ⊥) → t ≡ false
+    failed true n = absurd (n refl)
+    failed false n = refl
