@@ -8,7 +8,7 @@ use lib.ListN.{length, take}
 use Rattle.records.specs.Line.{put, placeAfter}
 use Rattle.records.proofs.Lines.{last-line-most, after-is, put-front}
 use Rattle.transcript.specs.declared.state.State.{State}
-use Rattle.transcript.specs.Transcript.{closing}
+use Rattle.transcript.specs.Last.{closing}
 
 module _ (s : State) (out : List ℕ) (room : 86 ≤ length out) where
   pub closing-fits : 0 + length (closing s) ≤ length out

@@ -22,7 +22,8 @@ use Rattle.transcript.proofs.Fronts.{between-is, moved-front}
 use Rattle.bench.specs.declared.sending.Sent.{Sent}
 use Rattle.bench.specs.declared.Filled.{Filled}
 use Rattle.bench.specs.declared.Drained.{Drained}
-use Rattle.bench.specs.Program.{Fills, Drains, Turns}
+use Rattle.bench.specs.Program.{Turns}
+use Rattle.bench.proofs.Drains.{Drains}
 
 -- two differences are above 0 together
 same-test : (a b n : ℕ) → n ≡ b - a → ltb a b ≡ ltb 0 n
@@ -31,7 +32,9 @@ same-test a b n e =
     (λ (h : a < b). rw (lt-ltb a b h, lt-ltb 0 n (omega arith)))
     (λ (h : a < b → ⊥). rw (le-ltb a b (omega arith), le-ltb 0 n (omega arith)))
 
-module _ (input : List ℕ) (held : ℕ) (f : Filled) (filled : List ℕ) (p : Fills input held f filled) where
+-- with what `fill` promises
+module _ (input : List ℕ) (held : ℕ) (f : Filled) (filled : List ℕ)
+    (p : (take held filled ≡ take held input) × ((held ≤ f .end) × (f .end ≤ length filled))) where
   -- all that is there, and what of it came
   abbrev all : List ℕ
   all = take (f .end) filled
@@ -40,12 +43,12 @@ module _ (input : List ℕ) (held : ℕ) (f : Filled) (filled : List ℕ) (p : F
   came = drop held all
 
   sized : length all ≡ f .end
-  sized = length-take-le (f .end) filled (p .within)
+  sized = length-take-le (f .end) filled (p .1 .1)
 
   parted : all ≡ take held input ++ came
   parted =
       sym (take-append-drop held all)
-      ∙ ap (λ (l : List ℕ). l ++ came) (take-take held (f .end) filled (p .behind) ∙ p .kept)
+      ∙ ap (λ (l : List ℕ). l ++ came) (take-take held (f .end) filled (p .1 .0) ∙ p .0)
 
   came-size : length came ≡ f .end - held
   came-size = rw (length-drop, sized)
@@ -57,11 +60,11 @@ module _ (input : List ℕ) (held : ℕ) (f : Filled) (filled : List ℕ) (p : F
   -- what is moved to the front is the rest
   moved : (read : ℕ) → read ≡ length (joined (recordsOf all)) → between filled read (f .end) ≡ restOf all
   moved read e =
-      between-is filled read (f .end) (omega (arith, taken)) (omega (arith, taken, p .within))
+      between-is filled read (f .end) (omega (arith, taken)) (omega (arith, taken, p .1 .1))
       ∙ ap (λ (n : ℕ). drop n all) e
       ∙ rest-behind all
 
-  pub turned : (s : State) (m : List ℕ) (earlier : Sent) → Below 256 filled → {d : Drained} {after : List ℕ}
+  pub turned : (s : State) (m : List ℕ) (earlier : Sent) → Below 256 filled → (d : Drained) (after : List ℕ)
       → Drains s m (take (f .end - 0) filled) earlier d after
       → {rest : ℕ} {left : List ℕ} → rest ≡ length (between filled (d .read) (f .end))
       → left ≡ movedOf filled (d .read) (f .end)
@@ -75,15 +78,15 @@ module _ (input : List ℕ) (held : ℕ) (f : Filled) (filled : List ℕ) (p : F
         more = (not (f .failed) && not unsent) && ltb held (f .end);
       })
       after left
-  turned s m earlier bytes {d} {after} given {rest} {left} e moves {unsent} same =
+  turned s m earlier bytes d after given {rest} {left} e moves {unsent} same =
       let g = rw (ap (λ (n : ℕ). take n filled) (sub-zero (f .end))) at given in
-      let over = moved (d .read) (g .read) in
+      let over = moved (d .read) (g .1 .1 .0) in
       let h = rw parted at g in
       record {
         came = came;
-        state = h .state;
-        memory = h .memory;
-        sent = h .sent;
+        state = h .0;
+        memory = h .1 .0;
+        sent = h .1 .1 .1;
         rest = rw (e, moves) (moved-front filled (d .read) (f .end)) ∙ over ∙ ap restOf parted;
         few = omega (arith, e, ap length over, rest-short all (below-take (f .end) filled bytes));
         more = rw (same, same-test held (f .end) (length came) came-size);

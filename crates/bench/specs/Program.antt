@@ -1,43 +1,23 @@
 -- What the program's functions do between and around the system calls, by the transcript's own definitions.
--- Of a read a contract knows how many bytes came and not which: `came` and `parts` are some lists of bytes.
+-- Of a read a contract knows how many bytes came and not which: `came` and `reads` are some lists of bytes.
 -- Assumes nothing.
-use Prim.Native.Nat.{ℕ, _≤_, _<_}
+use Prim.Native.Nat.{ℕ, _<_}
 use mathlib.Core.Path.{_≡_}
 use mathlib.Core.Bool.{Bool, true, false, not, _&&_}
 use mathlib.Core.List.{List, _++_}
 use lib.Dec.{ltb}
 use lib.ListN.{length, take}
 use Rattle.octets.specs.Choice.{pick}
-use Rattle.records.specs.Record.{joined, recordsOf, restOf}
-use Rattle.records.specs.Line.{put}
+use Rattle.records.specs.Record.{restOf}
 use Rattle.transcript.specs.declared.state.State.{State}
-use Rattle.transcript.specs.Frame.{start}
-use Rattle.transcript.specs.Transcript.{runOn, closing, transcriptOf}
-use Rattle.transcript.specs.Turns.{cameIn, goesOn}
+use Rattle.transcript.specs.State.{start}
+use Rattle.transcript.specs.Taking.{runOn}
+use Rattle.transcript.specs.Last.{closing, transcriptOf}
 use Rattle.bench.specs.declared.sending.Sent.{Sent}
-use Rattle.bench.specs.declared.Filled.{Filled}
-use Rattle.bench.specs.declared.Drained.{Drained}
 use Rattle.bench.specs.declared.Turned.{Turned}
 use Rattle.bench.specs.declared.Ended.{Ended}
 use Rattle.bench.specs.Sending.{nothingSent, Sends}
-
--- one read behind the bytes held, which stay
-pub record Fills (before : List ℕ) (held : ℕ) (f : Filled) (after : List ℕ) : Type 0 where
-  pub kept : take held after ≡ take held before
-  pub behind : held ≤ f .end
-  pub within : f .end ≤ length after
-
--- every whole record of the bytes taken, and all their lines sent
-pub record Drains (s : State) (m bytes : List ℕ) (earlier : Sent) (d : Drained) (after : List ℕ) : Type 0 where
-  pub state : d .state ≡ runOn s m bytes .state
-  pub memory : after ≡ runOn s m bytes .memory
-  pub read : d .read ≡ length (joined (recordsOf bytes))
-  pub sent : Sends earlier (length (runOn s m bytes .text)) (d .sent)
-
--- the last line at the output's front, and sent
-pub record Finishes (s : State) (out : List ℕ) (earlier later : Sent) (after : List ℕ) : Type 0 where
-  pub line : after ≡ put out 0 (closing s)
-  pub sent : Sends earlier (length (closing s)) later
+use Rattle.bench.specs.Reads.{cameIn, goesOn}
 
 -- one turn: what came stands behind the bytes held, their whole records are taken, and the rest is held.
 -- More is to come unless a call failed or nothing came.
@@ -54,14 +34,14 @@ pub record Turns (s : State) (m held : List ℕ) (earlier : Sent) (t : Turned) (
 abbrev pub toSend : Bool → List ℕ → List ℕ → List ℕ
 toSend failed m input = pick failed (runOn start m input .text) (transcriptOf m input)
 
--- the whole run, on all that came, however it was cut into parts: the state, the memory and the last line are those of
+-- the whole run, on all that came, however the reads cut it: the state, the memory and the last line are those of
 -- its transcript, and as many bytes were sent as are to send.
 -- It is over only where the input ended, a call failed or 2^64 - 1 turns passed.
 pub record Runs (m : List ℕ) (e : Ended) (after out : List ℕ) : Type 0 where
-  pub parts : List (List ℕ)
-  pub state : e .state ≡ runOn start m (cameIn parts) .state
-  pub memory : after ≡ runOn start m (cameIn parts) .memory
-  pub sent : Sends nothingSent (length (toSend (e .failed) m (cameIn parts))) (e .sent)
+  pub reads : List (List ℕ)
+  pub state : e .state ≡ runOn start m (cameIn reads) .state
+  pub memory : after ≡ runOn start m (cameIn reads) .memory
+  pub sent : Sends nothingSent (length (toSend (e .failed) m (cameIn reads))) (e .sent)
   pub line : e .failed ≡ false → take (length (closing (e .state))) out ≡ closing (e .state)
-  pub over : ((not (e .failed) && not (e .sent .failed)) && goesOn parts) ≡ true
-      → length parts ≡ 18446744073709551615
+  pub over : ((not (e .failed) && not (e .sent .failed)) && goesOn reads) ≡ true
+      → length reads ≡ 18446744073709551615

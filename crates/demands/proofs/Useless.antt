@@ -23,8 +23,9 @@ use Rattle.rack.specs.declared.answer.Beside.{Beside}
 use Rattle.rack.specs.Arrivals.{Arrival, bySmbus, byPcc, byRing, Brought, Without, packet, brings}
 use Rattle.rack.specs.Answers.{given, nothing, Left, arrivedOf}
 use Rattle.transcript.specs.declared.state.State.{State}
-use Rattle.transcript.specs.Frame.{start, oneMore, withPacket, frameOf}
-use Rattle.transcript.specs.Transcript as transcript
+use Rattle.transcript.specs.State.{start, oneMore, withPacket}
+use Rattle.transcript.specs.Frame.{frameOf}
+use Rattle.transcript.specs.Taking as transcript
 use Rattle.demands.specs.Presenting.{arrival}
 use Rattle.demands.specs.Numbers.{card, empty, packetWith}
 use Rattle.demands.proofs.Arrivals.{every-region, every-ring}

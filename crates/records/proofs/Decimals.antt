@@ -10,7 +10,7 @@ use native.Mathlib.Omega.{arith}
 use borrow.Author.Tests.{lt-ltb, le-ltb}
 use lib.Dec.{lit<}
 use lib.ListN.{length, getD, length-append}
-use Rattle.records.specs.Decimal.{digits, decimal, madeFrom}
+use Rattle.records.specs.Decimal.{digits, decimal}
 
 -- a number below ten, and one of more digits
 digits-one : (k n : ℕ) → n < 10 → digits (suc k) n ≡ (48 + n) ∷ []
@@ -72,6 +72,11 @@ count-four n h m =
     let c = rw three at (count-more (n / 100) (omega arith) (omega arith)) in
     let d = rw four at (count-more (n / 1000) (omega arith) (omega arith)) in
     omega arith
+
+-- the number that decimal digits make, going on from what those in front of them made
+unfoldable pub madeFrom : ℕ → List ℕ → ℕ
+madeFrom n [] = n
+madeFrom n (letter ∷ letters) = madeFrom (n * 10 + (letter - 48)) letters
 
 -- the digits make the number again
 made-append : (n : ℕ) (a b : List ℕ) → madeFrom n (a ++ b) ≡ madeFrom (madeFrom n a) b

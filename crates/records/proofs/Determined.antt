@@ -20,7 +20,7 @@ count-digits-determined κs a r q e f p o = determined (p .0) (o .0)
 
 pub lay-decimal-determined : (κs : Lfts 1) (a : _) (r q : ℕ) (e f : _) → decimal.Post κs a r e → decimal.Post κs a q f
     → (r ≡ q) × (e .0 .now ≡ f .0 .now)
-lay-decimal-determined κs a r q e f p o = (determined (p .0) (o .0), determined (p .2) (o .2))
+lay-decimal-determined κs a r q e f p o = (determined (p .0) (o .0), determined (p .1 .1) (o .1 .1))
 
 pub put-line-determined : (κs : Lfts 1) (a : _) (r q : ℕ) (e f : _) → line.Post κs a r e → line.Post κs a q f
     → (r ≡ q) × (e .0 .now ≡ f .0 .now)

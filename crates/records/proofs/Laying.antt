@@ -22,8 +22,8 @@ pub laying-none : (l : List ℕ) (at n count : ℕ) → count ≡ length (decima
 unfolding laid
 laying-none l at n count e = record { tail = []; stored = refl; whole = append-nil (decimal n); counted = e }
 
-module _ (l : List ℕ) (at n left rest : ℕ) (out : List ℕ) (y : Laying l at n left rest out) where
-  -- a turn: the last digit that was to come
+module _ {l : List ℕ} {at n left rest : ℕ} {out : List ℕ} (y : Laying l at n left rest out) where
+  -- one more: the last digit that was to come
   pub laying-more : rest < 10 ^ 20 → 10 ≤ rest
       → Laying l at n (left - 1) (rest / 10) (laid out (at + (left - 1)) ((48 + rest % 10) ∷ []))
   laying-more h m =

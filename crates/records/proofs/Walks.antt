@@ -12,8 +12,26 @@ use lib.ListN.{length, getD, take, drop, length-append, length-drop, take-append
 use lib.Seq.{getD-drop, length-take-le, take-append-seam, drop-append-seam, drop-cons, drop-drop, take-add}
 use Rattle.octets.specs.Bytes.{Below}
 use Rattle.records.specs.declared.record.Record.the-variants.{Whole, Cut, End}
-use Rattle.records.specs.Record.{recordAt, joined, Walk, found, walk, recordsOf, restOf, arrivalsIn}
+use Rattle.records.specs.Record.{recordAt, joined, Walk, found, walk, recordsOf, restOf}
 use Rattle.records.proofs.Records.{Stands, Short, Tells, told}
+
+-- A law of every list by its records: of no bytes, of a record cut short, and of a whole one in front of a list that
+-- has the law.
+module _ (P : List ℕ → Type 0) (none : P [])
+    (cut : (size : ℕ) (s : List ℕ) → length s < size → P (size ∷ s))
+    (whole : (size : ℕ) (s : List ℕ) → size ≤ length s → P (drop size s) → P (size ∷ s)) where
+  by-length : (n : ℕ) (s : List ℕ) → length s ≤ n → P s
+  by-length zero [] h = none
+  by-length zero (size ∷ s) h = absurd (omega arith)
+  by-length (suc n) [] h = none
+  by-length (suc n) (size ∷ s) h =
+      by-cases (decLt (length s) size)
+      (λ (k : length s < size). cut size s k)
+      (λ (k : length s < size → ⊥).
+      whole size s (omega arith) (by-length n (drop size s) (rw length-drop (omega arith))))
+
+  pub by-records : (s : List ℕ) → P s
+  by-records s = by-length (length s) s (omega arith)
 
 -- more steps than bytes change nothing
 walk-enough : (n m : ℕ) (s : List ℕ) → length s ≤ n → length s ≤ m → walk n s ≡ walk m s
@@ -93,26 +111,22 @@ joined-append [] b = refl
 joined-append (f ∷ a) b = rw (joined-append a b, append-assoc)
 
 -- the walk leaves no byte out
-abbrev whole : Walk → List ℕ
-whole w = joined (w .frames) ++ w .rest
-
-walk-split : (n : ℕ) (s : List ℕ) → whole (walk n s) ≡ s
-unfolding walk joined
-walk-split zero s = refl
-walk-split (suc n) [] = refl
-walk-split (suc n) (size ∷ s) =
-    by-cases (decLt (length s) size)
-    (λ (h : length s < size). ap whole (walk-cut size s h n))
-    (λ (h : length s < size → ⊥).
-    let w = walk n (drop size s) in
-    let k : size ≤ length s = omega arith in
-    ap whole (walk-whole size s k n)
-    ∙ append-assoc (length (take size s) ∷ take size s) (joined (w .frames)) (w .rest)
-    ∙ rw (length-take-le size s k, walk-split n (drop size s), take-append-drop size s))
-
 pub records-split : (s : List ℕ) → joined (recordsOf s) ++ restOf s ≡ s
-unfolding recordsOf restOf
-records-split s = walk-split (length s) s
+unfolding joined
+records-split =
+    by-records (λ (s : List ℕ). joined (recordsOf s) ++ restOf s ≡ s)
+    (rw (records-none, rest-none))
+    (λ (size : ℕ) (s : List ℕ) (h : length s < size). rw (records-cut size s h, rest-cut size s h))
+    (λ (size : ℕ) (s : List ℕ) (h : size ≤ length s)
+    (behind : joined (recordsOf (drop size s)) ++ restOf (drop size s) ≡ drop size s).
+    rw (
+      records-whole size s h,
+      rest-whole size s h,
+      length-take-le size s h,
+      append-assoc (take size s) (joined (recordsOf (drop size s))) (restOf (drop size s)),
+      behind,
+      take-append-drop size s,
+    ))
 
 -- behind the whole records stands the rest
 pub rest-behind : (s : List ℕ) → drop (length (joined (recordsOf s))) s ≡ restOf s
@@ -122,20 +136,15 @@ rest-behind s =
 
 -- the rest of a list of bytes is shorter than the longest record: the walk left it because its length byte promises
 -- more
-rest-few : (n : ℕ) (s : List ℕ) → Below 256 s → length s ≤ n → length (walk n s .rest) < 256
-unfolding walk
-rest-few zero s bytes h = omega arith
-rest-few (suc n) [] bytes h = omega arith
-rest-few (suc n) (size ∷ s) bytes h =
-    by-cases (decLt (length s) size)
-    (λ (k : length s < size). rw (walk-cut size s k n) (omega (arith, bytes 0)))
-    (λ (k : length s < size → ⊥).
-    rw (walk-whole size s (omega arith) n)
-    (rest-few n (drop size s) (λ (i : ℕ). rw getD-drop (bytes (suc (size + i)))) (rw length-drop (omega arith))))
-
 pub rest-short : (s : List ℕ) → Below 256 s → length (restOf s) < 256
-unfolding restOf
-rest-short s bytes = rest-few (length s) s bytes (omega arith)
+rest-short =
+    by-records (λ (s : List ℕ). Below 256 s → length (restOf s) < 256)
+    (λ (bytes : Below 256 []). rw rest-none (omega arith))
+    (λ (size : ℕ) (s : List ℕ) (h : length s < size) (bytes : Below 256 (size ∷ s)).
+    rw (rest-cut size s h) (omega (arith, bytes 0)))
+    (λ (size : ℕ) (s : List ℕ) (h : size ≤ length s)
+    (behind : Below 256 (drop size s) → length (restOf (drop size s)) < 256) (bytes : Below 256 (size ∷ s)).
+    rw (rest-whole size s h) (behind (λ (i : ℕ). rw getD-drop (bytes (suc (size + i))))))
 
 -- a list that comes in two parts: the records of the first, then those of what it left with the second behind it
 module _ (s t : List ℕ) where
@@ -148,7 +157,11 @@ module _ (s t : List ℕ) where
   pub rest-append : restOf (s ++ t) ≡ restOf (restOf s ++ t)
   rest-append = ap restOf parts ∙ rest-joined (recordsOf s) (restOf s ++ t)
 
--- arrivals are counted part by part
+-- "arrivals": each whole record is one, of an empty frame too; "A last record cut short" is none
+unfoldable pub arrivalsIn : List ℕ → ℕ
+arrivalsIn s = length (recordsOf s)
+
+-- and they are counted part by part
 pub arrivals-append : (s t : List ℕ) → arrivalsIn (s ++ t) ≡ arrivalsIn s + arrivalsIn (restOf s ++ t)
 unfolding arrivalsIn
 arrivals-append s t = ap length (records-append s t) ∙ length-append (recordsOf s) (recordsOf (restOf s ++ t))

@@ -1,6 +1,6 @@
 -- Decimal numbers in ASCII, as document 01's lines have them.
 -- Assumes nothing.
-use Prim.Native.Nat.{ℕ, zero, suc, _+_, _-_, _*_, _/_, _%_}
+use Prim.Native.Nat.{ℕ, zero, suc, _+_, _/_, _%_}
 use mathlib.Core.List.{List, [], _∷_, _++_}
 use lib.Dec.{ltb}
 use Rattle.octets.specs.Choice.{pick}
@@ -13,8 +13,3 @@ digits (suc most) n = pick (ltb n 10) ((48 + n) ∷ []) (digits most (n / 10) ++
 -- a number of 64 bits has at most 20
 unfoldable pub decimal : ℕ → List ℕ
 decimal n = digits 20 n
-
--- the number that decimal digits make, going on from what those in front of them made
-unfoldable pub madeFrom : ℕ → List ℕ → ℕ
-madeFrom n [] = n
-madeFrom n (letter ∷ letters) = madeFrom (n * 10 + (letter - 48)) letters

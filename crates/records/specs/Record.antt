@@ -47,7 +47,3 @@ recordsOf s = walk (length s) s .frames
 -- what is left behind the whole records: nothing, or a record cut short
 unfoldable pub restOf : List ℕ → List ℕ
 restOf s = walk (length s) s .rest
-
--- "arrivals": each whole record is one, of an empty frame too; "A last record cut short" is none
-unfoldable pub arrivalsIn : List ℕ → ℕ
-arrivalsIn s = length (recordsOf s)

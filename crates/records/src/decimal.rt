@@ -7,7 +7,8 @@ ghost use Rattle.records.specs.Decimal.{decimal};
 
 // How many digits `n` has: 1 to 20.
 pub fn count_digits(n: u64) -> usize
-    ensures { λ r. ⌜ (r ≡ length (decimal n)) × (r ≤ 20) ⌝ }
+    ensures count { λ r. ⌜ r ≡ length (decimal n) ⌝ }
+    ensures few { λ r. ⌜ r ≤ 20 ⌝ }
 {
     let mut count = 0;
     let mut rest = n;
@@ -16,6 +17,19 @@ pub fn count_digits(n: u64) -> usize
         count += 4;
     }
     count + few_digits(rest)
+}
+
+// The digits of `n` laid over `out` from place `at` on, and how many they are; what would lie past the end falls off.
+pub fn lay_decimal(out: &mut [u8], at: usize, n: u64) -> usize
+    ensures count { λ r. ⌜ r ≡ length (decimal n) ⌝ }
+    ensures few { λ r. ⌜ r ≤ 20 ⌝ }
+    ensures output { λ _. ⌜ now (out .exit) ≡ laid (now (out .entry)) at (decimal n) ⌝ }
+{
+    let count = count_digits(n);
+    if at < out.len() {
+        lay_digits(out, at, n, count);
+    }
+    count
 }
 
 fn few_digits(n: u64) -> usize
@@ -29,17 +43,6 @@ fn few_digits(n: u64) -> usize
         return 2;
     }
     if n < 1000 { 3 } else { 4 }
-}
-
-// The digits of `n` laid over `out` from place `at` on, and how many they are; what would lie past the end falls off.
-pub fn lay_decimal(out: &mut [u8], at: usize, n: u64) -> usize
-    ensures { λ r. ⌜ (r ≡ length (decimal n)) × (r ≤ 20) × (now (out .exit) ≡ laid (now (out .entry)) at (decimal n)) ⌝ }
-{
-    let count = count_digits(n);
-    if at < out.len() {
-        lay_digits(out, at, n, count);
-    }
-    count
 }
 
 // From the last digit to the first: each is what is left over in a division by ten.

@@ -31,8 +31,8 @@ pub const LINE_ROOM: usize = 86;
 // Line `number` put to place `at` of `out`, and the place after it. Where it does not fit nothing is written, and the
 // place stays.
 pub fn put_line(out: &mut [u8], at: usize, number: u64, line: Line) -> usize
-    ensures { λ r. ⌜ (r ≡ placeAfter (now (out .entry)) at (lineBytes number line))
-        × (now (out .exit) ≡ put (now (out .entry)) at (lineBytes number line)) ⌝ }
+    ensures place { λ r. ⌜ r ≡ placeAfter (now (out .entry)) at (lineBytes number line) ⌝ }
+    ensures output { λ _. ⌜ now (out .exit) ≡ put (now (out .entry)) at (lineBytes number line) ⌝ }
 {
     if out.len() < at {
         return at;
@@ -46,8 +46,8 @@ pub fn put_line(out: &mut [u8], at: usize, number: u64, line: Line) -> usize
 
 // The last line, put in the same way.
 pub fn put_last_line(out: &mut [u8], at: usize, arrivals: u64, packets: u64) -> usize
-    ensures { λ r. ⌜ (r ≡ placeAfter (now (out .entry)) at (lastLine arrivals packets))
-        × (now (out .exit) ≡ put (now (out .entry)) at (lastLine arrivals packets)) ⌝ }
+    ensures place { λ r. ⌜ r ≡ placeAfter (now (out .entry)) at (lastLine arrivals packets) ⌝ }
+    ensures output { λ _. ⌜ now (out .exit) ≡ put (now (out .entry)) at (lastLine arrivals packets) ⌝ }
 {
     if out.len() < at {
         return at;
@@ -97,7 +97,8 @@ fn line_size(number: u64, line: Line) -> usize
 // The size of two words with their numbers and an ending; the words have `letters` bytes.
 fn pair_size(letters: usize, a: u64, b: u64, again: bool) -> usize
     requires { ⌜ letters ≤ 32 ⌝ }
-    ensures { λ r. ⌜ (r ≡ letters + (length (decimal a) + (length (decimal b) + length (ending again)))) × (r ≤ 79) ⌝ }
+    ensures size { λ r. ⌜ r ≡ letters + (length (decimal a) + (length (decimal b) + length (ending again))) ⌝ }
+    ensures few { λ r. ⌜ r ≤ 79 ⌝ }
 {
     let digits = count_digits(a) + count_digits(b);
     if again {
@@ -168,7 +169,8 @@ fn lay_pair(
 // A word and its number.
 fn lay_named(out: &mut [u8], at: usize, word: &[u8], n: u64) -> usize
     requires { ⌜ (at ≤ length (now out) + 128) × (length (now word) ≤ 16) ⌝ }
-    ensures { λ r. ⌜ Placed (now (out .entry)) at (named (now (word .entry)) n) r (now (out .exit)) × (r ≤ at + 36) ⌝ }
+    ensures placed { λ r. ⌜ Placed (now (out .entry)) at (named (now (word .entry)) n) r (now (out .exit)) ⌝ }
+    ensures near { λ r. ⌜ r ≤ at + 36 ⌝ }
 {
     octets::lay(out, at, word);
     let behind = at + word.len();

@@ -2,93 +2,71 @@
 -- Assumes nothing.
 use mathlib.Core.Path.{_≡_, refl, ap, sym, _∙_}
 use mathlib.Core.List.{List, [], _∷_, _++_, append-assoc, append-nil}
-use Prim.Native.Nat.{ℕ, _+_, _-_, _≤_}
+use Prim.Native.Nat.{ℕ, _+_, _≤_}
 use native.Mathlib.Omega.{arith}
-use native.Mathlib.Nat.{zero-add}
 use lib.ListN.{length, take, drop, length-append}
 use lib.Seq.{take-append-seam}
 use Rattle.octets.specs.Bytes.{fronted}
 use Rattle.octets.proofs.Laid.{laid-front}
-use Rattle.records.specs.Record.{joined, recordsOf, restOf, arrivalsIn}
-use Rattle.records.specs.Line.{lastLine}
+use Rattle.records.specs.Record.{joined, recordsOf, restOf}
 use Rattle.records.proofs.Walks.{records-split, records-passed, joined-append}
 use Rattle.transcript.specs.declared.state.State.{State}
 use Rattle.transcript.specs.declared.taking.Taken.{Taken}
-use Rattle.transcript.specs.Frame.{start}
-use Rattle.transcript.specs.Transcript.{Ran, behindText, run, runOn, transcriptOf, packetsIn, Part, partOf, Left}
-use Rattle.transcript.specs.Transcript.{left, chunkOf}
-use Rattle.transcript.proofs.Parts.{part-more}
-use Rattle.transcript.proofs.Runs.{run-append, run-arrivals, run-packets, Took, took}
+use Rattle.transcript.specs.Taking.{behindText, run, runOn, chunkFrames, chunkRun}
+use Rattle.transcript.proofs.Frames.{frames-more, Took, took}
+use Rattle.transcript.proofs.Onward.{Alike, wholeChunk}
+use Rattle.transcript.proofs.Runs.{run-append}
 
 module _ (room : ℕ) (s : State) (m input : List ℕ) where
-  abbrev part : Part
-  part = partOf room s m (recordsOf input)
+  abbrev frames : List (List ℕ)
+  frames = chunkFrames room s m (recordsOf input)
+
+  -- the input behind their records
+  abbrev later : List ℕ
+  later = drop (length (joined frames)) input
 
   t : Took room s m (recordsOf input)
   t = took room s m (recordsOf input)
 
-  whole : input ≡ joined (t .taken) ++ (joined (t .rest) ++ restOf input)
+  whole : input ≡ joined frames ++ (joined (t .rest) ++ restOf input)
   whole =
       sym (records-split input)
       ∙ ap (λ (l : List (List ℕ)). joined l ++ restOf input) (t .split)
-      ∙ ap (λ (l : List ℕ). l ++ restOf input) (joined-append (t .taken) (t .rest))
-      ∙ append-assoc (joined (t .taken)) (joined (t .rest)) (restOf input)
+      ∙ ap (λ (l : List ℕ). l ++ restOf input) (joined-append frames (t .rest))
+      ∙ append-assoc (joined frames) (joined (t .rest)) (restOf input)
 
-  pub part-within : part .read ≤ length input
-  part-within =
-      let size = ap length whole ∙ length-append (joined (t .taken)) (joined (t .rest) ++ restOf input) in
-      omega (arith, t .read)
+  pub chunk-within : length (joined frames) ≤ length input
+  chunk-within = omega (arith, ap length whole ∙ length-append (joined frames) (joined (t .rest) ++ restOf input))
 
-  passed : take (part .read) input ≡ joined (t .taken)
+  passed : take (length (joined frames)) input ≡ joined frames
   passed =
-      ap (λ (n : ℕ). take n input) (t .read)
-      ∙ ap (take (length (joined (t .taken)))) whole
-      ∙ take-append-seam (joined (t .taken)) (joined (t .rest) ++ restOf input)
+      ap (take (length (joined frames))) whole ∙ take-append-seam (joined frames) (joined (t .rest) ++ restOf input)
 
   -- the frames left are those of the rest of the input
-  left-over : recordsOf input ≡ t .taken ++ recordsOf (drop (part .read) input)
+  left-over : recordsOf input ≡ frames ++ recordsOf later
   left-over =
       ap recordsOf (sym (append-nil input))
-      ∙ records-passed input [] (part .read) (t .taken) passed
-      ∙ ap (λ (l : List ℕ). t .taken ++ recordsOf l) (append-nil (drop (part .read) input))
+      ∙ records-passed input [] (length (joined frames)) frames passed
+      ∙ ap (λ (l : List ℕ). frames ++ recordsOf l) (append-nil later)
 
-  -- the rest of the input goes on where the part ended
-  pub part-then : runOn s m input
-      ≡ behindText (part .ran .text) (runOn (part .ran .state) (part .ran .memory) (drop (part .read) input))
-  part-then =
-      let on = recordsOf (drop (part .read) input) in
-      ap (run s m) left-over
-      ∙ run-append s m (t .taken) on
-      ∙ ap (λ (r : Ran). behindText (r .text) (run (r .state) (r .memory) on)) (sym (t .ran))
+  -- the rest of the input goes on where the chunk ended
+  pub chunk-then : runOn s m input
+      ≡ behindText (run s m frames .text) (runOn (run s m frames .state) (run s m frames .memory) later)
+  chunk-then = ap (run s m) left-over ∙ run-append s m frames (recordsOf later)
 
-  pub part-reads : length (joined (recordsOf input))
-      ≡ part .read + length (joined (recordsOf (drop (part .read) input)))
-  part-reads =
-      let on = recordsOf (drop (part .read) input) in
+  pub chunk-reads : length (joined (recordsOf input)) ≡ length (joined frames) + length (joined (recordsOf later))
+  chunk-reads =
       ap (λ (l : List (List ℕ)). length (joined l)) left-over
-      ∙ ap length (joined-append (t .taken) on)
-      ∙ length-append (joined (t .taken)) (joined on)
-      ∙ ap (λ (n : ℕ). n + length (joined on)) (sym (t .read))
+      ∙ ap length (joined-append frames (recordsOf later))
+      ∙ length-append (joined frames) (joined (recordsOf later))
 
--- with room for a line, a part stops only where no frame is left
-pub part-stops : (room : ℕ) (s : State) (m : List ℕ) (frames : List (List ℕ)) → 86 ≤ room
-    → partOf room s m frames .read ≡ 0 → frames ≡ []
-part-stops room s m [] h e = refl
-part-stops room s m (f ∷ frames) h e =
-    absurd (omega (arith, ap (λ (p : Part). p .read) (part-more s m room f frames h)))
-
--- the last line tells the whole records, and those of them that hold a packet
-pub transcript-counts : (m input : List ℕ) → arrivalsIn input ≤ 18446744073709551615
-    → transcriptOf m input ≡ runOn start m input .text ++ lastLine (arrivalsIn input) (packetsIn (recordsOf input))
-unfolding transcriptOf arrivalsIn
-transcript-counts m input h =
-    let frames = recordsOf input in
-    rw (
-      run-arrivals start m frames (omega arith),
-      run-packets start m frames (omega arith),
-      zero-add (length frames),
-      zero-add (packetsIn frames),
-    )
+-- with room for a line, a chunk takes nothing only where no frame is left
+pub chunk-stops : (room : ℕ) (s : State) (m : List ℕ) (frames : List (List ℕ)) → 86 ≤ room
+    → length (joined (chunkFrames room s m frames)) ≡ 0 → frames ≡ []
+unfolding joined
+chunk-stops room s m [] h e = refl
+chunk-stops room s m (f ∷ frames) h e =
+    absurd (omega (arith, ap (λ (l : List (List ℕ)). length (joined l)) (frames-more s m room f frames h)))
 
 -- as the call answers: within its bounds, its lines sent on, and the rest of the input to come
 pub record Chunked (s : State) (m input out : List ℕ) (t : Taken) (after written : List ℕ) : Type 0 where
@@ -101,23 +79,22 @@ pub record Chunked (s : State) (m input out : List ℕ) (t : Taken) (after writt
   pub stops : t .read ≡ 0 → recordsOf input ≡ []
 
 pub chunked : {t : Taken} {after written : List ℕ} (s : State) (m input out : List ℕ) → 86 ≤ length out
-    → left t after written ≡ chunkOf s m input out → Chunked s m input out t after written
-unfolding chunkOf fronted
+    → Alike
+    (record { state = t .state; memory = after; read = t .read; written = t .written; output = written })
+    (wholeChunk s m input out)
+    → Chunked s m input out t after written
+unfolding fronted
 chunked {t} {after} {written} s m input out room e =
-    let p = partOf (length out) s m (recordsOf input) in
-    let state = ap (λ (l : Left). l .state) e in
-    let memory = ap (λ (l : Left). l .memory) e in
-    let read : t .read ≡ p .read = ap (λ (l : Left). l .read) e ∙ zero-add (p .read) in
-    let text = p .ran .text in
+    let text = chunkRun (length out) s m input .text in
+    let read = e .1 .1 .0 in
+    let size = e .1 .1 .1 .0 in
     let fits = took (length out) s m (recordsOf input) .fits in
-    let size : t .written ≡ length text = ap (λ (l : Left). l .written) e ∙ zero-add (length text) in
-    let output = ap (λ (l : Left). l .output) e ∙ laid-front out text fits in
     record {
       text = text;
-      front = rw (size, output) (take-append-seam text (drop (length text) out));
-      runs = rw (state, memory, read) (part-then (length out) s m input);
-      reads = rw read (part-reads (length out) s m input);
-      inside = omega (arith, part-within (length out) s m input);
+      front = rw (size, e .1 .1 .1 .1, laid-front out text fits) (take-append-seam text (drop (length text) out));
+      runs = rw (e .0, e .1 .0, read) (chunk-then (length out) s m input);
+      reads = rw read (chunk-reads (length out) s m input);
+      inside = omega (arith, chunk-within (length out) s m input);
       fits = omega (arith, fits);
-      stops = λ (none : t .read ≡ 0). part-stops (length out) s m (recordsOf input) room (sym read ∙ none);
+      stops = λ (none : t .read ≡ 0). chunk-stops (length out) s m (recordsOf input) room (sym read ∙ none);
     }

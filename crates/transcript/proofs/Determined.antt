@@ -1,15 +1,13 @@
 -- The contracts leave no choice: two results that one allows on the same bytes are equal, and so is every lent byte at
 -- exit.
 -- Assumes nothing.
-use mathlib.Core.Path.{_≡_, ap}
+use mathlib.Core.Path.{_≡_}
 use contract.Lifetimes.{Lfts}
 use Prim.Native.Nat.{ℕ}
 use Rattle.octets.proofs.Choice.{determined}
 use Rattle.transcript.specs.declared.state.State.{State}
 use Rattle.transcript.specs.declared.frame.Framed.{Framed}
 use Rattle.transcript.specs.declared.taking.Taken.{Taken}
-use Rattle.transcript.specs.Frame as frame
-use Rattle.transcript.specs.Transcript as transcript
 use Rattle.transcript.proofs.state.set_up.Reads as set-up
 use Rattle.transcript.proofs.frame.frame_line.Reads as frame-line
 use Rattle.transcript.proofs.taking.chunk.Reads as chunk
@@ -24,19 +22,22 @@ pub frame-line-determined : (κs : Lfts 3) (a : _) (r q : Framed) (e f : _) → 
     → frame-line.Post κs a q f
     → (r ≡ q) × (e .1 .0 .now ≡ f .1 .0 .now) × (e .1 .1 .1 .0 .now ≡ f .1 .1 .1 .0 .now)
 frame-line-determined κs a r q e f p o =
-    let same = determined p o in (
-      ap (λ (l : frame.Left). record { state = l .state; behind = l .behind }) same,
-      ap (λ (l : frame.Left). l .memory) same,
-      ap (λ (l : frame.Left). l .output) same,
+    let state = determined (p .0) (o .0) in
+    let behind = determined (p .1 .1 .0) (o .1 .1 .0) in (
+      λ i. record { state = state i; behind = behind i },
+      determined (p .1 .0) (o .1 .0),
+      determined (p .1 .1 .1) (o .1 .1 .1),
     )
 
 pub chunk-determined : (κs : Lfts 3) (a : _) (r q : Taken) (e f : _) → chunk.Post κs a r e → chunk.Post κs a q f
     → (r ≡ q) × (e .1 .0 .now ≡ f .1 .0 .now) × (e .1 .1 .1 .0 .now ≡ f .1 .1 .1 .0 .now)
 chunk-determined κs a r q e f p o =
-    let same = determined p o in (
-      ap (λ (l : transcript.Left). record { state = l .state; read = l .read; written = l .written }) same,
-      ap (λ (l : transcript.Left). l .memory) same,
-      ap (λ (l : transcript.Left). l .output) same,
+    let state = determined (p .0) (o .0) in
+    let read = determined (p .1 .1 .0) (o .1 .1 .0) in
+    let written = determined (p .1 .1 .1 .0) (o .1 .1 .1 .0) in (
+      λ i. record { state = state i; read = read i; written = written i },
+      determined (p .1 .0) (o .1 .0),
+      determined (p .1 .1 .1 .1) (o .1 .1 .1 .1),
     )
 
 pub to-front-determined : (κs : Lfts 1) (a : _) (r q : ℕ) (e f : _) → to-front.Post κs a r e → to-front.Post κs a q f

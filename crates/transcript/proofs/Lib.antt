@@ -1,6 +1,8 @@
-pub mod Parts
+pub mod Frames
 pub mod Places
+pub mod Onward
 pub mod Runs
+pub mod Counts
 pub mod Chunks
 pub mod Fronts
 pub mod Determined

@@ -24,8 +24,10 @@ use Rattle.records.specs.Decimal.{digits, decimal}
 use Rattle.records.specs.Line.{named, pair, lineBytes, lastLine}
 use Rattle.records.proofs.Samples.{records}
 use Rattle.transcript.specs.declared.state.State.{State}
-use Rattle.transcript.specs.Frame.{start, oneMore, After, after, frameOf}
-use Rattle.transcript.specs.Transcript.{run, transcriptOf}
+use Rattle.transcript.specs.State.{start, oneMore}
+use Rattle.transcript.specs.Frame.{Ran, frameOf}
+use Rattle.transcript.specs.Taking.{run}
+use Rattle.transcript.specs.Last.{transcriptOf}
 
 -- "`40 0F 06 23 01 09 0A C8 00 71` is a good frame for address 0x20: done at EID 9, length 1"
 found : smbusBrings 64 (0x40 ∷ 0x0F ∷ 0x06 ∷ 0x23 ∷ 0x01 ∷ 0x09 ∷ 0x0A ∷ 0xC8 ∷ 0x00 ∷ 0x71 ∷ []) 0x20
@@ -47,12 +49,12 @@ done = refl
 
 -- what the two frames leave, in any memory of the right size
 module _ (m : List ℕ) (sized : length m ≡ 4096) where
-  first : After
+  first : Ran
   first =
       record {
         state = record { receiver = start .receiver; arrivals = 1; packets = 1 };
         memory = laid m 0 (0x00 ∷ []);
-        line = lineBytes 1 (Done 0 1 false);
+        text = lineBytes 1 (Done 0 1 false);
       }
 
   one : frameOf start m (0x40 ∷ 0x0F ∷ 0x06 ∷ 0x23 ∷ 0x01 ∷ 0x09 ∷ 0x0A ∷ 0xC8 ∷ 0x00 ∷ 0x71 ∷ []) ≡ first
@@ -63,7 +65,7 @@ module _ (m : List ℕ) (sized : length m ≡ 4096) where
       → frameOf s n (0x00 ∷ []) ≡ record {
         state = record { receiver = s .receiver; arrivals = oneMore (s .arrivals); packets = s .packets };
         memory = n;
-        line = lineBytes (oneMore (s .arrivals)) (Refused 3);
+        text = lineBytes (oneMore (s .arrivals)) (Refused 3);
       }
   unfolding frameOf
   two s n = rw short

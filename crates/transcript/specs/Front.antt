@@ -2,12 +2,11 @@
 -- Assumes nothing.
 use Prim.Native.Nat.{ℕ, _-_}
 use mathlib.Core.List.{List}
-use lib.ListN.{take, drop}
-use Rattle.octets.specs.Bytes.{laid}
+use Rattle.octets.specs.Bytes.{part, laid}
 
 -- the bytes from place `from` up to place `end`; where there are none, nothing
 unfoldable pub between : List ℕ → ℕ → ℕ → List ℕ
-between s from end = take (end - from) (drop from s)
+between s from end = part s from (end - from)
 
 unfoldable pub movedOf : List ℕ → ℕ → ℕ → List ℕ
 movedOf s from end = laid s 0 (between s from end)

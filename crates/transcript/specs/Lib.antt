@@ -1,4 +1,6 @@
+pub mod State
+pub mod Line
 pub mod Frame
-pub mod Transcript
-pub mod Turns
+pub mod Taking
+pub mod Last
 pub mod Front

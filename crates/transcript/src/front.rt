@@ -6,8 +6,8 @@ ghost use Rattle.transcript.specs.Front.{between, movedOf};
 
 // The bytes from place `from` up to place `end` moved to the front, the rest unchanged; and how many they are.
 pub fn to_front(bytes: &mut [u8], from: usize, end: usize) -> usize
-    ensures { λ r. ⌜ (r ≡ length (between (now (bytes .entry)) from end))
-        × (now (bytes .exit) ≡ movedOf (now (bytes .entry)) from end) ⌝ }
+    ensures count { λ r. ⌜ r ≡ length (between (now (bytes .entry)) from end) ⌝ }
+    ensures bytes { λ _. ⌜ now (bytes .exit) ≡ movedOf (now (bytes .entry)) from end ⌝ }
 {
     let stop = least(end, bytes.len());
     if stop <= from {

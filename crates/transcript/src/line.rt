@@ -7,7 +7,16 @@ ghost use mathlib.Core.Path.{_≡_};
 ghost use Rattle.rack.specs.Answers.{tells};
 ghost use Rattle.rack.specs.Arrivals.{without};
 ghost use Rattle.receiver.specs.Step.{says};
-ghost use Rattle.transcript.specs.Frame.{lineOfSaid, lineWithout, lineOf};
+ghost use Rattle.transcript.specs.Line.{lineOfSaid, lineWithout, lineOf};
+
+pub fn line_of(arrived: Arrived) -> Line
+    ensures { λ r. ⌜ r ≡ lineOf (tells arrived) ⌝ }
+{
+    match arrived {
+        Arrived::Given { beside: _, answer } => line_of_answer(answer),
+        Arrived::Nothing { why } => line_without(why),
+    }
+}
 
 fn line_of_answer(answer: Answer) -> Line
     ensures { λ r. ⌜ r ≡ lineOfSaid (says answer) ⌝ }
@@ -40,14 +49,5 @@ fn line_without(why: NoPacket) -> Line
         NoPacket::Refused { refusal } => Line::Refused {
             number: refusal.number(),
         },
-    }
-}
-
-pub fn line_of(arrived: Arrived) -> Line
-    ensures { λ r. ⌜ r ≡ lineOf (tells arrived) ⌝ }
-{
-    match arrived {
-        Arrived::Given { beside: _, answer } => line_of_answer(answer),
-        Arrived::Nothing { why } => line_without(why),
     }
 }

@@ -4,7 +4,7 @@ use rack::Arrived;
 use slots::Receiver;
 ghost use mathlib.Core.Path.{_≡_};
 ghost use Rattle.rack.specs.Answers.{tells};
-ghost use Rattle.transcript.specs.Frame.{start, oneMore, withPacket};
+ghost use Rattle.transcript.specs.State.{start, oneMore, withPacket};
 
 // "Own address 0x20, EID 9"
 pub const ADDRESS: u8 = 0x20;

@@ -2,7 +2,10 @@
 use crate::frame;
 use crate::state::State;
 ghost use mathlib.Core.Path.{_≡_};
-ghost use Rattle.transcript.specs.Transcript.{left, chunkOf};
+ghost use lib.ListN.{length};
+ghost use Rattle.octets.specs.Bytes.{laid};
+ghost use Rattle.records.specs.Record.{joined, recordsOf};
+ghost use Rattle.transcript.specs.Taking.{chunkFrames, chunkRun};
 
 // The state after a chunk, how many bytes of the input it took, and how many of the output it wrote.
 pub struct Taken {
@@ -12,8 +15,16 @@ pub struct Taken {
 }
 
 pub fn chunk(before: State, memory: &mut [u8], input: &[u8], output: &mut [u8]) -> Taken
-    ensures { λ r. ⌜ left r (now (memory .exit)) (now (output .exit))
-        ≡ chunkOf before (now (memory .entry)) (now (input .entry)) (now (output .entry)) ⌝ }
+    ensures state { λ r. ⌜ r .state
+        ≡ chunkRun (length (now (output .entry))) before (now (memory .entry)) (now (input .entry)) .state ⌝ }
+    ensures memory { λ _. ⌜ now (memory .exit)
+        ≡ chunkRun (length (now (output .entry))) before (now (memory .entry)) (now (input .entry)) .memory ⌝ }
+    ensures read { λ r. ⌜ r .read ≡ length (joined
+        (chunkFrames (length (now (output .entry))) before (now (memory .entry)) (recordsOf (now (input .entry))))) ⌝ }
+    ensures written { λ r. ⌜ r .written ≡ length
+        (chunkRun (length (now (output .entry))) before (now (memory .entry)) (now (input .entry)) .text) ⌝ }
+    ensures output { λ _. ⌜ now (output .exit) ≡ laid (now (output .entry)) 0
+        (chunkRun (length (now (output .entry))) before (now (memory .entry)) (now (input .entry)) .text) ⌝ }
 {
     let mut state = before;
     let mut read = 0;

@@ -37,7 +37,7 @@ one : (k : tie.After-chunk Inv-loop μ-loop)
     (head k .loop .output) (k .chunk .result) (k .chunk .last .1 .0) (k .chunk .last .1 .1 .1 .0)
 one k =
     let l = head k .loop in
-    chunk _ _ _ _ (l .state) (l .memory) (l .sent) (l .read) (l .inv .0) (l .output) (room k) (k .chunk .ensures)
+    chunk (l .inv .0) (l .output) (room k) (k .chunk .ensures)
 
 -- and what is to do behind it
 on : (c : tie.After-send Inv-loop μ-loop)
@@ -47,8 +47,7 @@ on : (c : tie.After-send Inv-loop μ-loop)
 on c =
     let k = behind c in
     let l = head k .loop in
-    going-on _ _ _ _ (l .state) (l .memory) (l .sent) (l .read) (l .inv .0) (l .output) (room k) (k .chunk .ensures)
-    (c .send .result) (c .send .ensures)
+    going-on (l .inv .0) (one k) (c .send .result) (c .send .ensures)
 
 sub-chunk : tie.Need-sub-chunk Inv-loop μ-loop
 sub-chunk c = c .before .loop .inv .0 .within
@@ -84,9 +83,7 @@ returns : tie.Need-returns Inv-loop μ-loop
 returns c =
     let k = behind (c .before) in
     let l = head k .loop in
-    going-done _ _ _ _ _ _ _ _ (on (c .before))
-    (chunk-last _ _ _ _ (l .state) (l .memory) (l .sent) (l .read) (l .inv .0) (l .output) (room k) (k .chunk .ensures)
-    (c .if1 .taken))
+    going-done (on (c .before)) (chunk-last (l .inv .0) (one k) (c .if1 .taken))
 
 pub drain-spec : {M : Type 1} → statement M
 drain-spec =

@@ -10,13 +10,13 @@ returns : tie.Need-returns
 returns c =
     let counted = c .before .before .before .before .before in
     let read = counted .before .before .before .before in
-    filled _ (read .read .last .1 .0) _ (counted .count .result) _ (omega arith) (counted .count .ensures .0 .0)
+    filled _ (read .read .last .1 .0) _ (counted .count .result) (omega arith) (counted .count .ensures .0 .0)
 
 returns-2 : tie.Need-returns-2
 returns-2 c =
     let counted = c .before .before .before in
     let read = counted .before .before .before .before in
-    filled _ (read .read .last .1 .0) _ (counted .count .result) _ (omega arith) (counted .count .ensures .0 .0)
+    filled _ (read .read .last .1 .0) _ (counted .count .result) (omega arith) (counted .count .ensures .0 .0)
 
 pub fill-spec : {M : Type 1} → statement M
 fill-spec =

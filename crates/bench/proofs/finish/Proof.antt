@@ -19,11 +19,10 @@ returns : tie.Need-returns
 returns c =
     let call = c .before .before .before .before .before .last-line in
     let f = c .before .before .before .before .before .before .before .before in
-    let front = closing-front (f .args .state) (f .args .output .now) (f .pre) in
-    record {
-      line = call .ensures .1;
-      sent = rw (sub-zero (call .result), call .ensures .0, call .ensures .1, front) at (c .send .ensures);
-    }
+    let front = closing-front (f .args .state) (f .args .output .now) (f .pre) in (
+      call .ensures .1,
+      rw (sub-zero (call .result), call .ensures .0, call .ensures .1, front) at (c .send .ensures),
+    )
 
 pub finish-spec : {M : Type 1} → statement M
 finish-spec =

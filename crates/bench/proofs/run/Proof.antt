@@ -94,7 +94,7 @@ returns-2 : tie.Need-returns-2 Inv-loop μ-loop
 returns-2 c =
     let l = end c .loop in
     let test = c .before .before .before .before in
-    run-finished (l .inv .0) (omega (arith, l .inv .3, begin (end c) .pre .1)) (test .if2 .left)
+    run-finished (l .inv .0) (l .output) (omega (arith, l .inv .3, begin (end c) .pre .1)) (test .if2 .left)
     (test .before .before .before .if1 .left) (c .before .before .finish .ensures)
 
 pub run-spec : {M : Type 1} → statement M

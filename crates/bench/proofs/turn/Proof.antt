@@ -12,7 +12,8 @@ returns c =
     let known = drained .before .before .before .before .before in
     let filled = known .before .before in
     turned _ _ _ (filled .fill .last .0) (filled .fill .ensures) _ _ _ (λ i. known .slice-known4 .given i .fits)
-    (drained .drain .ensures) (moved .to-front .ensures .0) (moved .to-front .ensures .1) (c .failed .ensures)
+    (drained .drain .result) _ (drained .drain .ensures) (moved .to-front .ensures .0) (moved .to-front .ensures .1)
+    (c .failed .ensures)
 
 pub turn-spec : {M : Type 1} → statement M
 turn-spec =

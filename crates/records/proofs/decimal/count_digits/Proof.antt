@@ -22,14 +22,8 @@ loop-holds c = (omega arith, omega arith)
 add-count : tie.Need-add-count Inv-loop μ-loop
 add-count c = omega (arith, decimal-most (c .before .before .args .n))
 
-loop-less : tie.Need-loop-less Inv-loop μ-loop
-loop-less c = omega arith
-
 loop-again : tie.Need-loop-again Inv-loop μ-loop
 loop-again c = (omega (arith, count-four (c .before .loop .rest) (omega arith) (omega arith)), omega arith)
-
-few-digits-requires : tie.Need-few-digits-requires Inv-loop μ-loop
-few-digits-requires c κs = omega arith
 
 add-result : tie.Need-add-result Inv-loop μ-loop
 add-result c = omega (arith, decimal-most (c .before .before .before .args .n))
@@ -45,8 +39,8 @@ count-digits-spec =
     μ-loop
     loop-holds
     add-count
-    loop-less
+    (λ c. omega arith)
     loop-again
-    few-digits-requires
+    (λ c κs. omega arith)
     add-result
     returns)

@@ -8,7 +8,7 @@ use Rattle.records.proofs.decimal.lay_decimal.Tie as tie
 
 returns-2 : tie.Need-returns-2
 returns-2 c =
-    (c .before .count-digits .ensures .0, c .before .count-digits .ensures .1, sym (laid-past _ _ _ (c .if1 .left)))
+    (c .before .count-digits .ensures .0, (c .before .count-digits .ensures .1, sym (laid-past _ _ _ (c .if1 .left))))
 
 pub lay-decimal-spec : {M : Type 1} → statement M
 lay-decimal-spec =

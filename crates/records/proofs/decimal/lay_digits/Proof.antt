@@ -31,45 +31,26 @@ sub-left : tie.Need-sub-left Inv-loop μ-loop
 sub-left c =
     omega (arith, count-more (c .before .loop .rest) (omega arith) (omega arith), c .before .loop .inv .0 .counted)
 
-add-lay-byte : tie.Need-add-lay-byte Inv-loop μ-loop
-add-lay-byte c = omega arith
-
-digit-requires : tie.Need-digit-requires Inv-loop μ-loop
-digit-requires c κs = search needs
-
-lay-byte-requires : tie.Need-lay-byte-requires Inv-loop μ-loop
-lay-byte-requires c κs = search needs
-
-loop-less : tie.Need-loop-less Inv-loop μ-loop
-loop-less c = omega arith
-
 loop-again : tie.Need-loop-again Inv-loop μ-loop
 loop-again c =
-    let a = c .before .before .before .before .before .before .before .before .args in
-    let l = c .before .before .before .before .before .before .loop in
-    let turn = laying-more (a .out .now) (a .at) (a .n) (l .left) (l .rest) (l .out) (l .inv .0) (omega arith)
-    (omega arith) in (
-      rw (c .before .before .lay-byte .ensures, c .before .before .before .digit .ensures) turn,
+    let laid = c .before .before in
+    let l = laid .before .before .before .before .loop in (
+      rw (laid .lay-byte .ensures, laid .before .digit .ensures) (laying-more (l .inv .0) (omega arith) (omega arith)),
       omega arith,
       omega arith,
-      c .before .before .lay-byte .kept .0 ∙ l .inv .3,
+      laid .lay-byte .kept .0 ∙ l .inv .3,
     )
 
-digit-requires-2 : tie.Need-digit-requires-2 Inv-loop μ-loop
-digit-requires-2 c κs = search needs
-
-lay-byte-requires-2 : tie.Need-lay-byte-requires-2 Inv-loop μ-loop
-lay-byte-requires-2 c κs = search needs
-
 same-length : tie.Need-same-length Inv-loop μ-loop
-same-length c = c .before .before .lay-byte2 .kept .0 ∙ c .before .before .before .before .before .before .loop .inv .3
+same-length c =
+    let laid = c .before .before in
+    laid .lay-byte2 .kept .0 ∙ laid .before .before .before .before .loop .inv .3
 
 returns : tie.Need-returns Inv-loop μ-loop
 returns c =
-    let a = c .before .before .before .before .before .before .before .before .args in
-    let l = c .before .before .before .before .before .before .loop in
-    rw (c .before .before .lay-byte2 .ensures, c .before .before .before .digit2 .ensures)
-    (laying-last (a .out .now) (a .at) (a .n) (l .left) (l .rest) (l .out) (l .inv .0) (omega arith))
+    let laid = c .before .before in
+    let l = laid .before .before .before .before .loop in
+    rw (laid .lay-byte2 .ensures, laid .before .digit2 .ensures) (laying-last (l .inv .0) (omega arith))
 
 pub lay-digits-spec : {M : Type 1} → statement M
 lay-digits-spec =
@@ -79,12 +60,12 @@ lay-digits-spec =
     μ-loop
     loop-holds
     sub-left
-    add-lay-byte
-    digit-requires
-    lay-byte-requires
-    loop-less
+    (λ c. omega arith)
+    (λ c κs. search needs)
+    (λ c κs. search needs)
+    (λ c. omega arith)
     loop-again
-    digit-requires-2
-    lay-byte-requires-2
+    (λ c κs. search needs)
+    (λ c κs. search needs)
     same-length
     returns)

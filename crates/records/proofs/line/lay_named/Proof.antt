@@ -12,11 +12,13 @@ use Rattle.records.proofs.line.lay_named.Tie as tie
 returns : tie.Need-returns
 unfolding named
 returns c =
-    let a = c .before .before .before .before .before .before .before .before .before .before .args in
-    let digits = c .before .before .lay-decimal .ensures in (
+    let number-laid = c .before .before in
+    let word-laid = number-laid .before .before .before .before in
+    let a = word-laid .before .before .before .before .args in
+    let digits = number-laid .lay-decimal .ensures in (
       placed-append (a .word .now) (decimal (a .n))
-          (record { place = refl; stored = c .before .before .before .before .before .before .lay .ensures })
-          (record { place = omega arith; stored = digits .2 }),
+          (record { place = refl; stored = word-laid .lay .ensures })
+          (record { place = omega arith; stored = digits .1 .1 }),
       omega arith,
     )
 

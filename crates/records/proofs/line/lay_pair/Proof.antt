@@ -10,14 +10,13 @@ use Rattle.records.proofs.line.lay_pair.Tie as tie
 returns : tie.Need-returns
 unfolding pair
 returns c =
-    let a =
-    c .before .before .before .before .before .before .before .before .before .before .before .before .before .before .before .args in
+    let ended = c .before .before in
+    let later = ended .before .before .before .before in
+    let earlier = later .before .before .before .before in
+    let a = earlier .before .before .before .before .before .args in
     let second = named (a .second .now) (a .b) in
-    placed-append (named (a .first .now) (a .a)) (second ++ ending (a .again))
-    (c .before .before .before .before .before .before .before .before .before .before .lay-named .ensures .0)
-    (placed-append second (ending (a .again))
-    (c .before .before .before .before .before .before .lay-named2 .ensures .0)
-    (c .before .before .lay-ending .ensures))
+    placed-append (named (a .first .now) (a .a)) (second ++ ending (a .again)) (earlier .lay-named .ensures .0)
+    (placed-append second (ending (a .again)) (later .lay-named2 .ensures .0) (ended .lay-ending .ensures))
 
 pub lay-pair-spec : {M : Type 1} → statement M
 lay-pair-spec =

@@ -8,29 +8,23 @@ use Rattle.records.proofs.line.line_size.Tie as tie
 
 returns : tie.Need-returns
 returns c =
-    let v = c .before .before .line .given .0 in
-    rw (c .before .before .line .given .1)
-    (omega (
-      arith,
-      done-size (c .before .before .before .before .before .args .number) (v .0) (v .1 .0)
-          (v .1 .1 .0),
-    ))
+    let arm = c .before .before in
+    let v = arm .line .given .0 in
+    rw (arm .line .given .1)
+    (omega (arith, done-size (arm .before .before .before .args .number) (v .0) (v .1 .0) (v .1 .1 .0)))
 
 returns-2 : tie.Need-returns-2
 returns-2 c =
-    let v = c .before .before .line2 .given .0 in
-    rw (c .before .before .line2 .given .1)
-    (omega (
-      arith,
-      held-size (c .before .before .before .before .before .args .number) (v .0) (v .1 .0)
-          (v .1 .1 .0),
-    ))
+    let arm = c .before .before in
+    let v = arm .line2 .given .0 in
+    rw (arm .line2 .given .1)
+    (omega (arith, held-size (arm .before .before .before .args .number) (v .0) (v .1 .0) (v .1 .1 .0)))
 
 returns-3 : tie.Need-returns-3
 returns-3 c =
-    let v = c .before .before .line3 .given .0 in
-    rw (c .before .before .line3 .given .1)
-    (omega (arith, refused-size (c .before .before .before .before .before .args .number) (v .0)))
+    let arm = c .before .before in
+    rw (arm .line3 .given .1)
+    (omega (arith, refused-size (arm .before .before .before .args .number) (arm .line3 .given .0 .0)))
 
 pub line-size-spec : {M : Type 1} → statement M
 line-size-spec =

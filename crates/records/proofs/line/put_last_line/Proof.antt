@@ -16,10 +16,11 @@ returns c =
 returns-2 : tie.Need-returns-2
 unfolding lastLine
 returns-2 c =
-    let a = c .before .before .before .before .before .before .before .before .before .before .args in
+    let pair-laid = c .before .before in
+    let a = pair-laid .before .before .before .before .before .before .before .before .args in
     let size = last-size (a .arrivals) (a .packets) in
     let line = lastLine (a .arrivals) (a .packets) in
-    let placed = put-placed (a .out .now) (a .at) line (omega arith) (c .before .before .lay-pair .ensures) in
+    let placed = put-placed (a .out .now) (a .at) line (omega arith) (pair-laid .lay-pair .ensures) in
     search needs
 
 returns-3 : tie.Need-returns-3

@@ -15,10 +15,10 @@ returns c = put-no-room _ _ _ (omega arith)
 
 returns-2 : tie.Need-returns-2
 returns-2 c =
-    let a = c .before .before .before .before .before .before .before .before .args in
+    let test = c .before .before .before .before in
+    let a = test .before .before .before .before .args in
     let room = leb-true (length (lineBytes (a .number) (a .line))) _
-    (sym (c .before .before .before .before .before .fits2 .ensures)
-    ∙ c .before .before .before .before .if2 .taken) in
+    (sym (test .before .fits2 .ensures) ∙ test .if2 .taken) in
     put-placed _ _ _ (omega arith) (c .before .before .lay-line .ensures)
 
 returns-3 : tie.Need-returns-3

@@ -1,6 +1,7 @@
 -- `transcript::frame::frame_line` meets its contract: the arrival's own promise, with the counts and the line beside
 -- it.
 -- Assumes nothing.
+use mathlib.Core.Path.{refl}
 use Rattle.transcript.specs.Frame.{frameOf}
 use borrow.Author.Needs.{needs}
 use Rattle.transcript.proofs.frame.frame_line.Statement.{statement}
@@ -19,7 +20,7 @@ returns c =
       counted .with-packet .ensures,
       counted .before .one-more .ensures,
       ← arrived .ensures,
-    )
+    ) (refl, (refl, (refl, refl)))
 
 pub frame-line-spec : {M : Type 1} → statement M
 frame-line-spec =

@@ -19,33 +19,12 @@ Inv-loop bytes₀ from end stop count i₀ bytes i =
 abbrev μ-loop : tie.MeasureT-loop
 μ-loop bytes₀ from end stop count i₀ bytes i = count - i
 
-least-requires : tie.Need-least-requires Inv-loop μ-loop
-least-requires c κs = tt
-
 returns : tie.Need-returns Inv-loop μ-loop
 returns c = moved-none _ _ _ (omega arith)
-
-sub-count : tie.Need-sub-count Inv-loop μ-loop
-sub-count c = omega arith
 
 loop-holds : tie.Need-loop-holds Inv-loop μ-loop
 unfolding laid
 loop-holds c = (omega arith, refl, refl)
-
-add-bytes : tie.Need-add-bytes Inv-loop μ-loop
-add-bytes c = omega arith
-
-slice-read-bytes : tie.Need-slice-read-bytes Inv-loop μ-loop
-slice-read-bytes c = omega arith
-
-slice-write-bytes : tie.Need-slice-write-bytes Inv-loop μ-loop
-slice-write-bytes c = omega arith
-
-add-i : tie.Need-add-i Inv-loop μ-loop
-add-i c = omega arith
-
-loop-less : tie.Need-loop-less Inv-loop μ-loop
-loop-less c = omega arith
 
 loop-again : tie.Need-loop-again Inv-loop μ-loop
 loop-again c =
@@ -74,15 +53,15 @@ to-front-spec =
     (tie.spec
     Inv-loop
     μ-loop
-    least-requires
+    (λ c κs. tt)
     returns
-    sub-count
+    (λ c. omega arith)
     loop-holds
-    add-bytes
-    slice-read-bytes
-    slice-write-bytes
-    add-i
-    loop-less
+    (λ c. omega arith)
+    (λ c. omega arith)
+    (λ c. omega arith)
+    (λ c. omega arith)
+    (λ c. omega arith)
     loop-again
     same-length
     returns-2)

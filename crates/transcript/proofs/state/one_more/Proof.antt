@@ -1,7 +1,7 @@
 -- `transcript::state::one_more` meets its contract.
 -- Assumes nothing.
 use borrow.Author.Tests.{lt-ltb, le-ltb}
-use Rattle.transcript.specs.Frame.{oneMore}
+use Rattle.transcript.specs.State.{oneMore}
 use borrow.Author.Needs.{needs}
 use Rattle.transcript.proofs.state.one_more.Statement.{statement}
 use Rattle.transcript.proofs.state.one_more.Tie as tie
