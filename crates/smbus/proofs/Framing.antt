@@ -12,44 +12,39 @@ use Rattle.pec.specs.Remainder.{pecOf}
 use Rattle.smbus.specs.Layout.{headOf, coveredOf, frameOf}
 
 module _ (destination source : ℕ) (packet : List ℕ) where
-  pub covered-length : length (coveredOf destination source packet) ≡ 4 + length packet
+  abbrev covered : List ℕ
+  covered = coveredOf destination source packet
+
+  pub covered-length : length covered ≡ 4 + length packet
   unfolding coveredOf headOf
   covered-length = omega arith
 
   -- "A frame .. is 4 longer than its count."
   pub frame-length : length (frameOf destination source packet) ≡ 5 + length packet
   unfolding frameOf
-  frame-length =
-      rw (length-append (coveredOf destination source packet) (pecOf (coveredOf destination source packet) ∷ []))
-      (omega (arith, covered-length))
+  frame-length = rw (length-append covered (pecOf covered ∷ [])) (omega (arith, covered-length))
 
   module _ (out : List ℕ) (room : 5 + length packet ≤ length out) where
     -- the head and the packet, laid one after the other
     pub covered-laid : laid (set (set (set (set out 0 (destination * 2)) 1 15) 2 (1 + length packet)) 3
         (source * 2 + 1)) 4 packet
-        ≡ laid out 0 (coveredOf destination source packet)
+        ≡ laid out 0 covered
     unfolding coveredOf headOf laid
     covered-laid = sym (laid-append out 0 (headOf destination source packet) packet)
 
     -- what the PEC is worked out of
-    pub covered-front : take (4 + length packet - 0) (laid out 0 (coveredOf destination source packet))
-        ≡ coveredOf destination source packet
+    pub covered-front : take (4 + length packet - 0) (laid out 0 covered) ≡ covered
     unfolding fronted
     covered-front =
-        ap (take (4 + length packet - 0))
-        (laid-front out (coveredOf destination source packet) (omega (arith, covered-length)))
-        ∙ take-at (coveredOf destination source packet) _ (4 + length packet - 0) (omega (arith, covered-length))
+        let n : 4 + length packet - 0 ≡ length covered = omega (arith, covered-length) in
+        ap (take (4 + length packet - 0)) (laid-front out covered (omega arith)) ∙ take-at covered _ _ (sym n)
 
     -- the PEC behind them
-    pub frame-laid : set (laid out 0 (coveredOf destination source packet)) (4 + length packet)
-        (pecOf (coveredOf destination source packet))
+    pub frame-laid : set (laid out 0 covered) (4 + length packet) (pecOf covered)
         ≡ fronted out (frameOf destination source packet)
     unfolding laid frameOf
     frame-laid =
-        let end : 4 + length packet ≡ 0 + length (coveredOf destination source packet) =
-        omega (arith, covered-length) in
-        ap (λ (n : ℕ). set (laid out 0 (coveredOf destination source packet)) n
-        (pecOf (coveredOf destination source packet))) end
-        ∙ sym (laid-append out 0 (coveredOf destination source packet)
-        (pecOf (coveredOf destination source packet) ∷ []))
+        let end : 4 + length packet ≡ 0 + length covered = omega (arith, covered-length) in
+        ap (λ (n : ℕ). set (laid out 0 covered) n (pecOf covered)) end
+        ∙ sym (laid-append out 0 covered (pecOf covered ∷ []))
         ∙ laid-front out (frameOf destination source packet) (omega (arith, frame-length))

@@ -26,18 +26,20 @@ module _ (destination source : ℕ) (packet : List ℕ) (to : destination ≤ 12
   head-bytes (suc (suc (suc zero))) = omega arith
   head-bytes (suc (suc (suc (suc i)))) = omega arith
 
+  abbrev covered : List ℕ
+  covered = coveredOf destination source packet
+
   -- with any byte where the PEC stands,
-  pub ended-bytes : (end : ℕ) → end < 256 → Bytes packet → Bytes (coveredOf destination source packet ++ (end ∷ []))
+  pub ended-bytes : (end : ℕ) → end < 256 → Bytes packet → Bytes (covered ++ (end ∷ []))
   unfolding coveredOf
   ended-bytes end h b =
-      below-append (coveredOf destination source packet) (end ∷ [])
-      (below-append (headOf destination source packet) packet head-bytes b) (below-cons end [] h below-nil)
+      below-append covered (end ∷ []) (below-append (headOf destination source packet) packet head-bytes b)
+      (below-cons end [] h below-nil)
 
-  -- and with the PEC itself
+  -- and with the PEC itself.
   pub frame-bytes : Bytes packet → Bytes (frameOf destination source packet)
   unfolding frameOf
-  frame-bytes =
-      ended-bytes (pecOf (coveredOf destination source packet)) (pec-byte (coveredOf destination source packet))
+  frame-bytes = ended-bytes (pecOf covered) (pec-byte covered)
 
 -- What a good frame gives.
 module _ (most : ℕ) (frame : List ℕ) (own : ℕ) (g : Good most frame own) where
@@ -55,9 +57,9 @@ module _ (most : ℕ) (frame : List ℕ) (own : ℕ) (g : Good most frame own) w
   pub part-long : length (partOf frame) ≤ 4 + most
   part-long = omega (arith, part-length, g .long)
 
-  covered : beforeEnd frame ≡ coveredOf own sender (partOf frame)
+  before-end : beforeEnd frame ≡ coveredOf own sender (partOf frame)
   unfolding beforeEnd partOf coveredOf headOf
-  covered =
+  before-end =
       let n : length frame - 1 ≡ 4 + (length frame - 5) = omega (arith, g .short) in
       let destination : getD frame 0 0 ≡ own * 2 = omega (arith, g .bit, g .ours) in
       let command : getD frame 1 0 ≡ 15 = g .command in
@@ -75,4 +77,4 @@ module _ (most : ℕ) (frame : List ℕ) (own : ℕ) (g : Good most frame own) w
       sym (take-all (suc (length frame - 1)) frame (omega arith))
       ∙ take-suc frame (length frame - 1) 0 (omega (arith, g .short))
       ∙ ap (λ (b : ℕ). beforeEnd frame ++ (b ∷ [])) (g .checked)
-      ∙ ap (λ (l : List ℕ). l ++ (pecOf l ∷ [])) covered
+      ∙ ap (λ (l : List ℕ). l ++ (pecOf l ∷ [])) before-end

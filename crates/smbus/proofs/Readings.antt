@@ -30,9 +30,9 @@ module _ (most : ℕ) (frame : List ℕ) (own : ℕ) where
   unfolding refusalOf
   refused-at = first-failing (readOrder most frame own) 0
 
-  pub of-good : Good most frame own → refusalOf most frame own ≡ 0
+  pub good-number : Good most frame own → refusalOf most frame own ≡ 0
   unfolding refusalOf
-  of-good g = none-failing (readOrder most frame own) 0 (omega (arith, tests))
+  good-number g = none-failing (readOrder most frame own) 0 (omega (arith, tests))
 
   pub good : refusalOf most frame own ≡ 0 → Good most frame own
   unfolding refusalOf

@@ -14,7 +14,7 @@ use Rattle.smbus.specs.Layout.{headOf, coveredOf, frameOf}
 use Rattle.smbus.specs.Reading.{endOf, beforeEnd, refusalOf, partOf, packetOf, sourceAddressOf}
 use Rattle.smbus.specs.Writing.{frameSize, writeRefusal, writtenOf}
 use Rattle.smbus.proofs.Framing.{frame-length}
-use Rattle.smbus.proofs.Readings.{Good, of-good}
+use Rattle.smbus.proofs.Readings.{Good, good-number}
 use Rattle.smbus.proofs.Writings.{good}
 use Rattle.smbus.proofs.Answers.{good-packet, good-source, output-written}
 
@@ -38,30 +38,23 @@ module _ (most destination source : ℕ) (packet : List ℕ) where
     pub frame-good : Good most frame destination
     unfolding frameOf coveredOf headOf endOf beforeEnd
     frame-good =
-        let n : length (frameOf destination source packet) ≡ 5 + length packet =
-        frame-length destination source packet in
-        record {
-          least = least;
-          largest = largest;
-          address = to;
-          short = omega arith;
-          long = omega arith;
-          bit = omega arith;
-          ours = omega arith;
-          command = omega arith;
-          count = omega arith;
-          sender = omega arith;
-          checked = checked-last frame (checked-made (coveredOf destination source packet));
-        }
+        let size : length frame ≡ 5 + length packet = frame-length destination source packet in
+        let checked : endOf frame ≡ pecOf (beforeEnd frame) =
+        checked-last frame (checked-made (coveredOf destination source packet)) in
+        omega arith
 
     pub frame-number : refusalOf most frame destination ≡ 0
-    frame-number = of-good most frame destination frame-good
+    frame-number = good-number most frame destination frame-good
 
     pub frame-packet : packetOf most frame destination ≡ packet
     frame-packet = good-packet most frame destination frame-number ∙ part-frame
 
     pub frame-source : sourceAddressOf most frame destination ≡ source
     frame-source = good-source most frame destination frame-number ∙ source-frame
+
+    frame-read : (refusalOf most frame destination ≡ 0) × (packetOf most frame destination ≡ packet)
+        × (sourceAddressOf most frame destination ≡ source)
+    frame-read = (frame-number, frame-packet, frame-source)
 
 -- A written frame, taken from the output's front and read at its destination, gives the packet, the sender and the
 -- number 0.
@@ -76,16 +69,11 @@ module _ (most : ℕ) (out packet : List ℕ) (destination source : ℕ)
       ap (take (5 + length packet)) (output-written most out packet destination source e)
       ∙ take-at (frameOf destination source packet) _ (5 + length packet) (frame-length destination source packet)
 
-  -- what the frame gives, with all that the number 0 says
   read-back : (refusalOf most written destination ≡ 0) × (packetOf most written destination ≡ packet)
       × (sourceAddressOf most written destination ≡ source)
   read-back =
       let g = good most (length out) (length packet) destination source e in
-      rw written-frame (
-        frame-number most destination source packet (g .least) (g .largest) (g .to) (g .short) (g .long),
-        frame-packet most destination source packet (g .least) (g .largest) (g .to) (g .short) (g .long),
-        frame-source most destination source packet (g .least) (g .largest) (g .to) (g .short) (g .long),
-      )
+      rw written-frame (frame-read most destination source packet (g .least) (g .largest) (g .to) (g .short) (g .long))
 
   pub back-number : refusalOf most written destination ≡ 0
   back-number = read-back .0

@@ -23,13 +23,13 @@ module _ (most room size destination source : ℕ) where
   abbrev order : List (Check ℕ)
   order = writeOrder most room size destination source
 
-  pub unwritten-at : (i : ℕ) → FailsAt order i → writeRefusal most room size destination source ≡ answerAt order 0 i
+  pub refused-at : (i : ℕ) → FailsAt order i → writeRefusal most room size destination source ≡ answerAt order 0 i
   unfolding writeRefusal
-  unwritten-at = first-failing order 0
+  refused-at = first-failing order 0
 
-  pub of-good : Good most room size destination source → writeRefusal most room size destination source ≡ 0
+  pub good-number : Good most room size destination source → writeRefusal most room size destination source ≡ 0
   unfolding writeRefusal
-  of-good g = none-failing order 0 (omega (arith, tests))
+  good-number g = none-failing order 0 (omega (arith, tests))
 
   pub good : writeRefusal most room size destination source ≡ 0 → Good most room size destination source
   unfolding writeRefusal

@@ -32,8 +32,7 @@ fn write_within(most: usize, out: &mut [u8], packet: &[u8], destination: u8, sou
     ensures output { λ _. ⌜ now (out .exit)
         ≡ writtenOf most (now (out .entry)) (now (packet .entry)) destination source ⌝ }
 {
-    let allowed = may_write(most, out.len(), packet.len(), destination, source);
-    match allowed {
+    match may_write(most, out.len(), packet.len(), destination, source) {
         Outcome::Good => {
             fill(out, packet, destination, source);
             Written::Frame(5 + packet.len())

@@ -15,27 +15,19 @@ use borrow.Author.Needs.{needs}
 use Rattle.smbus.proofs.writing.fill.Statement.{statement}
 use Rattle.smbus.proofs.writing.fill.Tie as tie
 
-slice-write-out-2 : tie.Need-slice-write-out-2
-slice-write-out-2 c = simp length-set (omega arith)
-
-slice-write-out-3 : tie.Need-slice-write-out-3
-slice-write-out-3 c = simp length-set (omega arith)
-
-slice-write-out-4 : tie.Need-slice-write-out-4
-slice-write-out-4 c = simp length-set (omega arith)
-
 -- what stands in the output once the packet is copied
 module _ (c : tie.After-lay) where
+  abbrev start : tie.Start
+  start = c .before .before .before .before
+
   abbrev out : List ℕ
-  out = c .before .before .before .before .args .out .now
+  out = start .args .out .now
 
   abbrev packet : List ℕ
-  packet = c .before .before .before .before .args .packet .now
+  packet = start .args .packet .now
 
   abbrev covered : List ℕ
-  covered =
-      coveredOf (c .before .before .before .before .args .destination)
-      (c .before .before .before .before .args .source) packet
+  covered = coveredOf (start .args .destination) (start .args .source) packet
 
   room : 5 + length packet ≤ length out
   room = omega arith
@@ -49,16 +41,19 @@ module _ (c : tie.After-lay) where
 part-pec-end : tie.Need-part-pec-end
 part-pec-end c = omega (arith, kept (c .before .before .before))
 
+-- that place, from where the PEC is known
+abbrev copy : tie.After-pec → tie.After-lay
+copy c = c .before .before .before .before .before
+
 slice-write-out-5 : tie.Need-slice-write-out-5
-slice-write-out-5 c =
-    omega (arith, kept (c .before .before .before .before .before), room (c .before .before .before .before .before))
+slice-write-out-5 c = omega (arith, kept (copy c), room (copy c))
 
 same-length : tie.Need-same-length
-same-length c = simp length-set (kept (c .before .before .before .before .before))
+same-length c = simp length-set (kept (copy c))
 
 returns : tie.Need-returns
 returns c =
-    let l = c .before .before .before .before .before in
+    let l = copy c in
     let check : c .pec .result ≡ pecOf (covered l) =
     c .pec .ensures ∙ ap pecOf (ap (take (4 + length (packet l) - 0)) (copied l)
     ∙ covered-front _ _ (packet l) (out l) (room l)) in
@@ -72,13 +67,13 @@ fill-spec =
     (tie.spec
     (λ c. search needs)
     (λ c. search needs)
-    slice-write-out-2
+    (λ c. simp length-set (omega arith))
     (λ c. search needs)
     (λ c. search needs)
-    slice-write-out-3
+    (λ c. simp length-set (omega arith))
     (λ c. search needs)
     (λ c. search needs)
-    slice-write-out-4
+    (λ c. simp length-set (omega arith))
     (λ c κs. search needs)
     (λ c. search needs)
     (λ c. search needs)

@@ -5,7 +5,7 @@ use native.Mathlib.Omega.{arith}
 use lib.ListN.{length}
 use Rattle.mctp.specs.Refusals.{outcomeNumber}
 use Rattle.smbus.specs.Writing.{writeRefusal}
-use Rattle.smbus.proofs.Writings.{Good, good}
+use Rattle.smbus.proofs.Writings.{good}
 use Rattle.smbus.proofs.Answers.{says-written, says-unwritten}
 use borrow.Author.Needs.{needs}
 use Rattle.smbus.proofs.writing.write_within.Statement.{statement}
@@ -29,8 +29,8 @@ returns c =
 
 returns-2 : tie.Need-returns-2
 returns-2 c =
-    says-unwritten _ _ _ _ _ (c .before .allowed .given .0 .0)
-    (sym (c .before .before .before .may-write .ensures) ∙ ap outcomeNumber (c .before .allowed .given .1))
+    says-unwritten _ _ _ _ _ (c .before .why .given .0 .0)
+    (sym (c .before .before .before .may-write .ensures) ∙ ap outcomeNumber (c .before .why .given .1))
 
 pub write-within-spec : {M : Type 1} → statement M
 write-within-spec =
