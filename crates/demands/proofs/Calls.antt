@@ -28,7 +28,8 @@ use Rattle.descriptor.specs.Reading.{configuredOf}
 use Rattle.descriptor.proofs.read_descriptor.Reads as read-descriptor
 use Rattle.slots.specs.Changes.{keeps, setUpOf}
 use Rattle.slots.proofs.set_up.Reads as set-up
-use Rattle.window.specs.Window.{setupOf, placeIn, areaOf, interfaceIn, storeRefusal, stored, storedPointer}
+use Rattle.window.specs.Places.{setupOf, placeIn, areaOf}
+use Rattle.window.specs.Words.{interfaceIn, storeRefusal, stored, storedPointer}
 use Rattle.window.proofs.refusal.Reads as window-refusal
 use Rattle.window.proofs.place_of.Reads as place-of
 use Rattle.window.proofs.area.Reads as area

@@ -13,7 +13,8 @@ use Rattle.descriptor.specs.Configuration.{areaPlace, isRing}
 use Rattle.descriptor.specs.declared.reading.Configured.the-variants.{Checked}
 use Rattle.descriptor.specs.Reading.{configuredOf}
 use Rattle.descriptor.proofs.Readings.{found-allowed}
-use Rattle.window.specs.Window.{areaOf, RingChanged}
+use Rattle.window.specs.Places.{areaOf}
+use Rattle.window.specs.PutBack.{RingChanged}
 use Rattle.window.proofs.Areas.{found-ring-cut}
 use Rattle.window.proofs.PutBack.{put-back}
 use Rattle.ring.specs.Numbers.{setUpRight}

@@ -28,7 +28,9 @@ use Rattle.descriptor.specs.declared.reading.Configured.the-variants.{Checked}
 use Rattle.descriptor.specs.Reading.{configuredOf}
 use Rattle.descriptor.specs.Configuration.{isRing, areaPlace}
 use Rattle.window.specs.declared.word.Pointer.{Pointer}
-use Rattle.window.specs.Window.{areaOf, storeRefusal, stored, storedPointer, RingChanged}
+use Rattle.window.specs.Places.{areaOf}
+use Rattle.window.specs.Words.{storeRefusal, stored, storedPointer}
+use Rattle.window.specs.PutBack.{RingChanged}
 use Rattle.window.proofs.Stores.{stored-refused, pointer-refused}
 use Rattle.mmbi.specs.declared.word.Word.{Word}
 use Rattle.mmbi.specs.Interface.{normalRuntime, askedByHost, askedByController, stateOf, mayRead, mayWrite}

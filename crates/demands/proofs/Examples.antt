@@ -30,7 +30,9 @@ use Rattle.descriptor.specs.declared.configuration.Area.the-variants.{B2h}
 use Rattle.descriptor.specs.Configuration.{areaPlace, inside, clear, allowed}
 use Rattle.descriptor.proofs.Literal.{windowImage, imageConfiguration, image-found}
 use Rattle.window.specs.declared.word.Pointer.the-variants.{H2bWrite}
-use Rattle.window.specs.Window as window
+use Rattle.window.specs.Places as window
+use Rattle.window.specs.Words as words
+use Rattle.window.specs.PutBack.{RingChanged}
 use Rattle.ring.specs.Numbers.{filledOf, nextOf}
 use Rattle.ring.specs.Packet.{packetOf, wholeFor, headerFor, ringBytes, RingLayout}
 use Rattle.ring.specs.Runs.{arrivalRing, allSized, spaceFor, allBytes, queued, allReadable, readAll}
@@ -117,23 +119,23 @@ pub cut-ring-is-never-1 : (readable running : Bool) (read write n : ℕ)
     (areaPlace imageConfiguration B2h .length) running read write n ≡ putting.refused 1 → ⊥)
 cut-ring-is-never-1 = demands.cut-ring-is-never-1 windowImage imageConfiguration B2h refl image-found
 
-pub a-write-stays-in-its-ring : window.RingChanged windowImage imageConfiguration B2h
+pub a-write-stays-in-its-ring : RingChanged windowImage imageConfiguration B2h
     (putting.writeOf 64 (window.areaOf windowImage imageConfiguration B2h) 128 true 0 0 literalPacket .ring)
 a-write-stays-in-its-ring =
     demands.a-write-stays-in-its-ring windowImage imageConfiguration B2h refl image-found 128 true 0 0 literalPacket
 
 -- 12: pointer 2 is no multiple of 4
-no-pointer : window.storeRefusal (length windowImage) imageConfiguration H2bWrite 2 ≡ 12
-unfolding window.storeRefusal allowed inside clear
+no-pointer : words.storeRefusal (length windowImage) imageConfiguration H2bWrite 2 ≡ 12
+unfolding words.storeRefusal allowed inside clear
 no-pointer = refl
 
-pub not-stored : window.stored windowImage imageConfiguration H2bWrite
+pub not-stored : words.stored windowImage imageConfiguration H2bWrite
     (record { pointer = 2; bit1 = true; bit0 = false }) ≡ windowImage
 not-stored =
     demands.not-stored windowImage imageConfiguration H2bWrite (record { pointer = 2; bit1 = true; bit0 = false })
     (λ e. omega (arith, no-pointer))
 
-pub pointer-not-stored : window.storedPointer windowImage imageConfiguration H2bWrite 2 ≡ windowImage
+pub pointer-not-stored : words.storedPointer windowImage imageConfiguration H2bWrite 2 ≡ windowImage
 pointer-not-stored =
     demands.pointer-not-stored windowImage imageConfiguration H2bWrite 2 (λ e. omega (arith, no-pointer))
 

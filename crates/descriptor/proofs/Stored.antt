@@ -1,7 +1,7 @@
 -- A stored configuration is right exactly if some descriptor gives it: what reading finds is allowed (`found-allowed`),
 -- and for what is allowed there is a window whose descriptor gives it.
 -- Assumes nothing.
-use mathlib.Core.Path.{_≡_, refl, ap, _∙_}
+use mathlib.Core.Path.{_≡_, refl}
 use mathlib.Core.Bool.{Bool, true, _&&_}
 use mathlib.Core.List.{List, [], _∷_, _++_}
 use Prim.Native.Nat.{ℕ, _-_, _*_, _/_, _%_, _^_, _≤_, _<_}

@@ -3,12 +3,11 @@
 use mathlib.Core.Path.{_≡_, refl}
 use mathlib.Core.Bool.{Bool, true, false, false≢true}
 use mathlib.Core.List.{List, []}
-use Prim.Native.Nat.{ℕ, _+_, _-_, _≤_}
+use Prim.Native.Nat.{ℕ, _+_, _≤_}
 use native.Mathlib.Omega.{arith}
 use lib.ListN.{length, take, drop, length-take, length-drop}
 use Rattle.octets.specs.Choice.{pick}
 use Rattle.mmbi.specs.Pointers.{lengthRight}
-use Rattle.descriptor.specs.declared.place.Place.{Place}
 use Rattle.descriptor.specs.declared.configuration.Configuration.{Configuration}
 use Rattle.descriptor.specs.declared.configuration.Area.{Area}
 use Rattle.descriptor.specs.declared.configuration.Area.the-variants.{B2h, H2b, Ros, Rws}
@@ -16,7 +15,7 @@ use Rattle.descriptor.specs.Places.{endOf}
 use Rattle.descriptor.specs.declared.reading.Configured.the-variants.{Checked}
 use Rattle.descriptor.specs.Configuration.{areaPlace, isRing, allowed}
 use Rattle.descriptor.specs.Reading.{configuredOf}
-use Rattle.window.specs.Window.{placeIn, bytesAt, areaOf}
+use Rattle.window.specs.Places.{placeIn, areaOf}
 use Rattle.descriptor.proofs.Configurations.{Allowed, allowed-facts}
 use Rattle.descriptor.proofs.Readings.{found-allowed}
 
@@ -36,13 +35,6 @@ place-fits window c area = fits (allowed window c) refl
         → endOf (pick b (areaPlace c area) (record { offset = 0; length = 0 })) ≤ window
     fits true e = area-fits window c area (allowed-facts window c e)
     fits false e = omega arith
-
--- a place cut out by its two ends
-pub cut-bytes : (s : List ℕ) {p q : Place} {to : ℕ} → p ≡ q → to ≡ endOf p
-    → take (to - p .offset) (drop (p .offset) s) ≡ bytesAt s q
-cut-bytes s {p} {q} {to} e f =
-    let n : to - p .offset ≡ p .length = omega arith in
-    rw (n, e)
 
 -- so many bytes of a list, where there are so many
 take-drop-length : (s : List ℕ) (from n : ℕ) → from + n ≤ length s → length (take n (drop from s)) ≡ n

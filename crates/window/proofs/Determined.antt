@@ -14,29 +14,28 @@ use Rattle.window.proofs.word.interface_of.Reads as interface-of
 use Rattle.window.proofs.word.store.Reads as store
 use Rattle.window.proofs.word.store_pointer.Reads as store-pointer
 
-pub refusal-determined : (κs : Lfts 1) (a : _) (r q : ℕ) (e f : _) → refusal.Post κs a r e → refusal.Post κs a q f → r
-    ≡ q
+pub refusal-determined : (κs : Lfts 1) (a : _) (r q : ℕ) (e f : _)
+    → refusal.Post κs a r e → refusal.Post κs a q f → r ≡ q
 refusal-determined κs a r q e f p o = determined p o
 
-pub place-of-determined : (κs : Lfts 1) (a : _) (r q : Place) (e f : _) → place-of.Post κs a r e
-    → place-of.Post κs a q f → r ≡ q
+pub place-of-determined : (κs : Lfts 1) (a : _) (r q : Place) (e f : _)
+    → place-of.Post κs a r e → place-of.Post κs a q f → r ≡ q
 place-of-determined κs a r q e f p o = determined p o
 
 -- the area shows the same bytes; where it lies is not said
 pub area-determined : (κs : Lfts 1) (a r q e f : _) → area.Post κs a r e → area.Post κs a q f → now r ≡ now q
 area-determined κs a r q e f p o = determined p o
 
-pub interface-of-determined : (κs : Lfts 1) (a : _) (r q : Interface) (e f : _) → interface-of.Post κs a r e → interface-of.Post κs a q f → r
-    ≡ q
+pub interface-of-determined : (κs : Lfts 1) (a : _) (r q : Interface) (e f : _)
+    → interface-of.Post κs a r e → interface-of.Post κs a q f → r ≡ q
 interface-of-determined κs a r q e f p o = determined p o
 
-pub store-determined : (κs : Lfts 1) (a : _) (r q : ℕ) (e f : _) → store.Post κs a r e → store.Post κs a q f
-    → (r ≡ q) × (e .0 .now ≡ f .0 .now)
+pub store-determined : (κs : Lfts 1) (a : _) (r q : ℕ) (e f : _)
+    → store.Post κs a r e → store.Post κs a q f → (r ≡ q) × (e .0 .now ≡ f .0 .now)
 store-determined κs a r q e f p o = (determined (p .0) (o .0), determined (p .1) (o .1))
 
-pub store-pointer-determined : (κs : Lfts 1) (a : _) (r q : ℕ) (e f : _) → store-pointer.Post κs a r e
-    → store-pointer.Post κs a q f
-    → (r ≡ q) × (e .0 .now ≡ f .0 .now)
+pub store-pointer-determined : (κs : Lfts 1) (a : _) (r q : ℕ) (e f : _)
+    → store-pointer.Post κs a r e → store-pointer.Post κs a q f → (r ≡ q) × (e .0 .now ≡ f .0 .now)
 store-pointer-determined κs a r q e f p o = (determined (p .0) (o .0), determined (p .1) (o .1))
 
 -- No call asks anything of its arguments first.

@@ -11,11 +11,11 @@ use Rattle.mmbi.specs.Words.{wordOf}
 use Rattle.descriptor.specs.declared.configuration.Configuration.{Configuration}
 use Rattle.window.specs.declared.word.Pointer.{Pointer}
 use Rattle.descriptor.specs.Configuration.{allowed}
-use Rattle.window.specs.Window.{cleared, wordIn, interfaceIn}
+use Rattle.window.specs.Words.{cleared, wordWhere, wordIn, interfaceIn}
 
 -- "Pointers are byte offsets, multiples of 4."
 pub pointer-aligned : (s : List ℕ) (c : Configuration) (p : Pointer) → wordIn s c p .pointer % 4 ≡ 0
-unfolding wordIn cleared wordOf
+unfolding wordWhere cleared wordOf
 pointer-aligned s c p = omega arith
 
 -- refused with 1: the pointers are 0 and the flags clear
@@ -28,5 +28,5 @@ pub look-refused : (s : List ℕ) (c : Configuration) → allowed (length s) c �
       «host_ready» = false;
       «controller_ready» = false;
     }
-unfolding interfaceIn wordIn cleared wordOf
+unfolding interfaceIn wordWhere cleared wordOf
 look-refused s c e = rw e

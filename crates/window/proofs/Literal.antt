@@ -17,8 +17,8 @@ use Rattle.descriptor.proofs.Literal.{descriptorImage, rosImage, windowImage, i
 use Rattle.window.specs.declared.word.Pointer.{Pointer}
 use Rattle.window.specs.declared.word.Pointer.the-variants.{H2bWrite, B2hRead, B2hWrite, H2bRead}
 use Rattle.window.specs.declared.word.Interface.{Interface}
-use Rattle.window.specs.Window.{setupOf, placeIn, areaOf, cleared, wordIn, interfaceIn, storeRefusal, stored}
-use Rattle.window.specs.Window.{storedPointer}
+use Rattle.window.specs.Places.{setupOf, placeIn, areaOf}
+use Rattle.window.specs.Words.{cleared, wordWhere, interfaceIn, storeRefusal, stored, storedPointer}
 
 -- 1 in a window one byte too short; nothing lies there then
 pub image-setup : map (λ (n : ℕ). setupOf n imageConfiguration) (339 ∷ 340 ∷ []) ≡ 1 ∷ 0 ∷ []
@@ -58,13 +58,13 @@ pub image-words :
       «host_ready» = true;
       «controller_ready» = true;
     }
-unfolding interfaceIn wordIn cleared wordOf allowed inside clear wordAt
+unfolding interfaceIn wordWhere cleared wordOf allowed inside clear wordAt
 image-words = refl
 
 -- H2B_WP moved on to 36: H_UP stays (00 00 00 26)
 pub image-stored : storedPointer windowImage imageConfiguration H2bWrite 36
     ≡ descriptorImage ++ (rosImage ++ (0 ∷ 0 ∷ 0 ∷ 38 ∷ 0 ∷ 0 ∷ 0 ∷ 5 ∷ []) ++ replicate 260 0)
-unfolding storedPointer stored storeRefusal wordIn cleared wordOf numberOf allowed inside clear wordAt
+unfolding storedPointer stored storeRefusal wordWhere cleared wordOf numberOf allowed inside clear wordAt
     wordBytes laid
 image-stored = refl
 
@@ -106,7 +106,7 @@ pub each-flag :
     ∷ flagged false false false false true false
     ∷ flagged false false false false false false
     ∷ []
-unfolding interfaceIn wordIn cleared wordOf allowed inside clear wordAt
+unfolding interfaceIn wordWhere cleared wordOf allowed inside clear wordAt
 each-flag = refl
 
 -- pointers of four bytes, no two alike: 01020304, 05060708, 090A0B0C, 0D0E0F10
@@ -121,7 +121,7 @@ pub four-pointers :
       «host_ready» = false;
       «controller_ready» = false;
     }
-unfolding interfaceIn wordIn cleared wordOf allowed inside clear wordAt
+unfolding interfaceIn wordWhere cleared wordOf allowed inside clear wordAt
 four-pointers = refl
 
 -- a window of bytes EE with room for larger pointers: Host_ROS at 64, Host_RWS at 72, B2H of 1,024 bytes, H2B of 2,048
@@ -180,6 +180,6 @@ setup-first = refl
 pub reserved-cleared : take 16
     (drop 64 (storedPointer (withWords (bit0 0) (bit0 0) (bit0 0) (bit0 7)) imageConfiguration B2hRead 8))
     ≡ replicate 15 0 ++ (9 ∷ [])
-unfolding storedPointer stored storeRefusal wordIn cleared wordOf numberOf allowed inside clear wordAt
+unfolding storedPointer stored storeRefusal wordWhere cleared wordOf numberOf allowed inside clear wordAt
     wordBytes laid
 reserved-cleared = refl

@@ -8,6 +8,7 @@ use Prim.Native.Nat.{ℕ, _+_, _≤_}
 use native.Mathlib.Omega.{arith}
 use lib.ListN.{length, take, drop}
 use lib.Seq.{length-take-le, take-at, drop-at, drop-drop}
+use Rattle.octets.specs.Bytes.{part}
 use Rattle.octets.specs.Words.{highFirst}
 use Rattle.octets.proofs.Laid.{laid-fits, laid-length}
 use Rattle.descriptor.specs.declared.configuration.Configuration.{Configuration}
@@ -19,7 +20,9 @@ use Rattle.descriptor.proofs.Places.{Apart}
 use Rattle.descriptor.proofs.Configurations.{Allowed, allowed-facts, length-bounds}
 use Rattle.window.specs.declared.word.Pointer.{Pointer}
 use Rattle.window.specs.declared.word.Pointer.the-variants.{H2bWrite, B2hRead, B2hWrite, H2bRead}
-use Rattle.window.specs.Window.{placeIn, areaOf, putBack, wordPlace, wordIn, interfaceIn, RingChanged}
+use Rattle.window.specs.Places.{placeIn, areaOf}
+use Rattle.window.specs.Words.{wordPlace, wordWhere, wordIn, interfaceIn}
+use Rattle.window.specs.PutBack.{putBack, RingChanged}
 use Rattle.window.proofs.LaidWords.{laid-beside, laid-word-beside}
 use Rattle.window.proofs.Areas.{area-fits, ring-right}
 use Rattle.window.proofs.Stores.{ring-clear, beside}
@@ -43,25 +46,30 @@ module _ (s : List ℕ) (c : Configuration) (ring : Area) (bytes : List ℕ) (is
   facts : Allowed (length s) c
   facts = allowed-facts (length s) c ok
 
-  kept-length : length (putBack s c ring bytes) ≡ length s
-  kept-length = laid-length s (areaPlace c ring .offset) bytes
+  abbrev after : List ℕ
+  after = putBack s c ring bytes
 
-  -- what lies before the ring, and behind it
   abbrev place : ℕ
   place = areaPlace c ring .offset
 
-  laid-there : putBack s c ring bytes ≡ take place s ++ (bytes ++ drop (place + length bytes) s)
+  abbrev rest : List ℕ
+  rest = drop (place + length bytes) s
+
+  kept-length : length after ≡ length s
+  kept-length = laid-length s place bytes
+
+  laid-there : after ≡ take place s ++ (bytes ++ rest)
   laid-there = laid-fits s place bytes (omega (arith, area-fits (length s) c ring facts, fits))
 
   front : length (take place s) ≡ place
   front = length-take-le place s (omega (arith, area-fits (length s) c ring facts))
 
-  before-stays : take place (putBack s c ring bytes) ≡ take place s
+  -- what lies before the ring, and behind it
+  before-stays : take place after ≡ take place s
   before-stays = ap (take place) laid-there ∙ take-at (take place s) _ place front
 
-  behind-stays : drop (endOf (areaPlace c ring)) (putBack s c ring bytes) ≡ drop (endOf (areaPlace c ring)) s
+  behind-stays : drop (endOf (areaPlace c ring)) after ≡ drop (endOf (areaPlace c ring)) s
   behind-stays =
-      let rest = drop (place + length bytes) s in
       let n = areaPlace c ring .length in
       ap (drop (place + n)) laid-there
       ∙ sym (drop-drop n place (take place s ++ (bytes ++ rest)))
@@ -70,15 +78,15 @@ module _ (s : List ℕ) (c : Configuration) (ring : Area) (bytes : List ℕ) (is
       ∙ ap (λ (k : ℕ). drop (place + k) s) fits
 
   -- the descriptor
-  descriptor-stays : take 64 (putBack s c ring bytes) ≡ take 64 s
+  descriptor-stays : take 64 after ≡ take 64 s
   descriptor-stays =
-      let right = length-bounds (areaPlace c ring .length) (ring-right (length s) c ring is facts) in
-      laid-beside s (areaPlace c ring .offset) bytes 0 64
-      (⊎-elim (λ (h : _). absurd (omega (arith, right))) (λ (h : _). inr h)
+      let least = length-bounds (areaPlace c ring .length) (ring-right (length s) c ring is facts) .0 in
+      laid-beside s place bytes 0 64
+      (⊎-elim (λ (h : _). absurd (omega (arith, least))) (λ (h : _). inr h)
       (ring-clear (length s) c ring is facts .descriptor))
 
-  word-stays : (p : Pointer) → wordIn (putBack s c ring bytes) c p ≡ wordIn s c p
-  unfolding wordIn
+  word-stays : (p : Pointer) → wordIn after c p ≡ wordIn s c p
+  unfolding wordWhere
   word-stays p =
       let apart : (place + length bytes ≤ wordPlace c p) ⊎ (wordPlace c p + 4 ≤ place) =
       ⊎-elim (λ (h : _). inr h) (λ (h : _). inl (omega (arith, fits)))
@@ -86,28 +94,27 @@ module _ (s : List ℕ) (c : Configuration) (ring : Area) (bytes : List ℕ) (is
       rw (kept-length, laid-word-beside highFirst s place bytes (wordPlace c p) apart)
 
   -- all four words
-  words-stay : interfaceIn (putBack s c ring bytes) c ≡ interfaceIn s c
+  words-stay : interfaceIn after c ≡ interfaceIn s c
   unfolding interfaceIn
   words-stay = rw (word-stays H2bWrite, word-stays B2hRead, word-stays B2hWrite, word-stays H2bRead)
 
   -- both structures and the other ring
-  others-stay : (other : Area) → (other ≡ ring → ⊥) → areaOf (putBack s c ring bytes) c other ≡ areaOf s c other
+  others-stay : (other : Area) → (other ≡ ring → ⊥) → areaOf after c other ≡ areaOf s c other
   unfolding areaOf placeIn
   others-stay other e =
       let q = areaPlace c other in
-      let apart = areas-apart (length s) c ring other is e facts in
       rw (kept-length, ok)
-      (laid-beside s (areaPlace c ring .offset) bytes (q .offset) (q .length)
-      (⊎-elim (λ (h : _). inl (omega (arith, fits))) (λ (h : _). inr h) apart))
+      (laid-beside s place bytes (q .offset) (q .length)
+      (⊎-elim (λ (h : _). inl (omega (arith, fits))) (λ (h : _). inr h)
+      (areas-apart (length s) c ring other is e facts)))
 
   -- and the ring itself has the bytes that came back
-  ring-is-back : areaOf (putBack s c ring bytes) c ring ≡ bytes
+  ring-is-back : areaOf after c ring ≡ bytes
   unfolding areaOf placeIn
   ring-is-back =
       let n = areaPlace c ring .length in
-      let rest = drop (place + length bytes) s in
       rw (kept-length, ok)
-      (ap (λ (l : List ℕ). take n (drop place l)) laid-there
+      (ap (λ (l : List ℕ). part l place n) laid-there
       ∙ ap (take n) (drop-at (take place s) (bytes ++ rest) place front)
       ∙ take-at bytes rest n fits)
 

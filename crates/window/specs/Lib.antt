@@ -1,1 +1,3 @@
-pub mod Window
+pub mod Places
+pub mod Words
+pub mod PutBack

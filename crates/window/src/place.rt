@@ -5,7 +5,7 @@ use descriptor::Configuration;
 use descriptor::Place;
 ghost use mathlib.Core.Path.{_≡_};
 ghost use lib.ListN.{length};
-ghost use Rattle.window.specs.Window.{setupOf, placeIn, areaOf};
+ghost use Rattle.window.specs.Places.{setupOf, placeIn, areaOf};
 
 // 1 where the configuration is not one that this window can have, else 0.
 pub fn refusal(window: &[u8], c: Configuration) -> u8
@@ -25,6 +25,14 @@ pub fn place_of(window: &[u8], c: Configuration, which: Area) -> Place
     place_in(window.len(), c, which)
 }
 
+// The area itself; empty where refused.
+pub fn area(window: &[u8], c: Configuration, which: Area) -> &[u8]
+    ensures { λ r. ⌜ now r ≡ areaOf (now (window .entry)) c which ⌝ }
+{
+    let p = place_in(window.len(), c, which);
+    octets::part(window, p.offset as usize, p.length as usize)
+}
+
 fn place_in(window: usize, c: Configuration, which: Area) -> Place
     ensures { λ r. ⌜ r ≡ placeIn window c which ⌝ }
 {
@@ -36,14 +44,4 @@ fn place_in(window: usize, c: Configuration, which: Area) -> Place
             length: 0,
         }
     }
-}
-
-// The area itself; empty where refused.
-pub fn area(window: &[u8], c: Configuration, which: Area) -> &[u8]
-    ensures { λ r. ⌜ now r ≡ areaOf (now (window .entry)) c which ⌝ }
-{
-    let p = place_in(window.len(), c, which);
-    let from = p.offset as usize;
-    let to = descriptor::end(p);
-    &window[from..to]
 }

@@ -6,11 +6,8 @@ use mmbi::Pointers;
 use mmbi::Word;
 ghost use mathlib.Core.Path.{_≡_};
 ghost use lib.ListN.{length};
-ghost use Rattle.octets.specs.Choice.{pick};
-ghost use Rattle.octets.specs.Words.{highFirst, wordAt};
-ghost use Rattle.mmbi.specs.Words.{wordOf};
-ghost use Rattle.window.specs.Window.{wordPlace, hasUp, cleared, interfaceIn};
-ghost use Rattle.window.specs.Window.{pointsInto, storeRefusal, withWord, stored, storedPointer};
+ghost use Rattle.window.specs.Words.{wordPlace, hasUp, cleared, wordWhere, interfaceIn, pointsInto};
+ghost use Rattle.window.specs.Words.{storeRefusal, withWord, stored, storedPointer};
 
 // The four pointers, by the words that hold them: H2B_WP and B2H_RP in Host_RWS, B2H_WP and H2B_RP in Host_ROS.
 pub enum Pointer {
@@ -27,55 +24,6 @@ pub struct Interface {
     pub h2b: Pointers,
     pub host_ready: bool,
     pub controller_ready: bool,
-}
-
-fn word_place(c: Configuration, which: Pointer) -> usize
-    ensures { λ r. ⌜ r ≡ wordPlace c which ⌝ }
-{
-    match which {
-        Pointer::H2bWrite => c.rws as usize,
-        Pointer::B2hRead => c.rws as usize + 4,
-        Pointer::B2hWrite => c.ros as usize,
-        Pointer::H2bRead => c.ros as usize + 4,
-    }
-}
-
-fn has_up(which: Pointer) -> bool
-    ensures { λ r. ⌜ r ≡ hasUp which ⌝ }
-{
-    match which {
-        Pointer::H2bWrite => true,
-        Pointer::B2hRead => false,
-        Pointer::B2hWrite => true,
-        Pointer::H2bRead => false,
-    }
-}
-
-// Bit 1 of a word that holds a read pointer is reserved: ignored in reading, 0 in writing.
-fn without_reserved(which: Pointer, word: Word) -> Word
-    ensures { λ r. ⌜ r ≡ cleared which word ⌝ }
-{
-    Word {
-        pointer: word.pointer,
-        bit1: word.bit1 & has_up(which),
-        bit0: word.bit0,
-    }
-}
-
-// The word that holds this pointer, where `ok`; else one of zeros.
-fn word_where(window: &[u8], ok: bool, c: Configuration, which: Pointer) -> Word
-    ensures { λ r. ⌜ r ≡ cleared which (wordOf (pick ok
-        (wordAt highFirst (now (window .entry)) (wordPlace c which)) 0)) ⌝ }
-{
-    if !ok {
-        return Word {
-            pointer: 0,
-            bit1: false,
-            bit0: false,
-        };
-    }
-    let n = octets::word_high_first(window, word_place(c, which));
-    without_reserved(which, Word::of_number(n))
 }
 
 // All pointers and flags; the pointers 0 and the flags clear where refused.
@@ -107,15 +55,35 @@ pub fn interface_of(window: &[u8], c: Configuration) -> Interface
     }
 }
 
-fn points_into(which: Pointer) -> Area
-    ensures { λ r. ⌜ r ≡ pointsInto which ⌝ }
+// The word, pointer and flags, stored where this pointer is held; 0, or the refusal's number with nothing stored.
+pub fn store(window: &mut [u8], c: Configuration, which: Pointer, word: Word) -> u8
+    ensures number { λ r. ⌜ r ≡ storeRefusal (length (now (window .entry))) c which (word .pointer) ⌝ }
+    ensures window { λ _. ⌜ now (window .exit) ≡ stored (now (window .entry)) c which word ⌝ }
 {
-    match which {
-        Pointer::H2bWrite => Area::H2b,
-        Pointer::B2hRead => Area::B2h,
-        Pointer::B2hWrite => Area::B2h,
-        Pointer::H2bRead => Area::H2b,
+    let refusal = refusal_to_store(window.len(), c, which, word.pointer);
+    if refusal == 0 {
+        lay_word(window, c, which, word);
     }
+    refusal
+}
+
+// The pointer alone, with the flags that stand beside it; 0, or the refusal's number with nothing stored. The flags may
+// be read before that is asked: where the configuration is refused they go nowhere.
+pub fn store_pointer(window: &mut [u8], c: Configuration, which: Pointer, pointer: usize) -> u8
+    ensures number { λ r. ⌜ r ≡ storeRefusal (length (now (window .entry))) c which pointer ⌝ }
+    ensures window { λ _. ⌜ now (window .exit) ≡ storedPointer (now (window .entry)) c which pointer ⌝ }
+{
+    let held = word_where(window, true, c, which);
+    store(
+        window,
+        c,
+        which,
+        Word {
+            pointer,
+            bit1: held.bit1,
+            bit0: held.bit0,
+        },
+    )
 }
 
 // Whether this pointer may be stored: 1, 12, or 0 where it may.
@@ -141,36 +109,61 @@ fn lay_word(window: &mut [u8], c: Configuration, which: Pointer, word: Word)
     octets::lay_high_first(window, word_place(c, which), n);
 }
 
-// The word, pointer and flags, stored where this pointer is held; 0, or the refusal's number with nothing stored.
-pub fn store(window: &mut [u8], c: Configuration, which: Pointer, word: Word) -> u8
-    ensures { λ r. ⌜ r ≡ storeRefusal (length (now (window .entry))) c which (word .pointer) ⌝ }
-    ensures { λ _. ⌜ now (window .exit) ≡ stored (now (window .entry)) c which word ⌝ }
+// The word that holds this pointer, where `ok`; else one of zeros.
+fn word_where(window: &[u8], ok: bool, c: Configuration, which: Pointer) -> Word
+    ensures { λ r. ⌜ r ≡ wordWhere ok (now (window .entry)) c which ⌝ }
 {
-    let refusal = refusal_to_store(window.len(), c, which, word.pointer);
-    if refusal == 0 {
-        lay_word(window, c, which, word);
+    if !ok {
+        return Word {
+            pointer: 0,
+            bit1: false,
+            bit0: false,
+        };
     }
-    refusal
+    let n = octets::word_high_first(window, word_place(c, which));
+    without_reserved(which, Word::of_number(n))
 }
 
-// The pointer alone, with the flags that stand beside it; 0, or the refusal's number with nothing stored.
-pub fn store_pointer(window: &mut [u8], c: Configuration, which: Pointer, pointer: usize) -> u8
-    ensures { λ r. ⌜ r ≡ storeRefusal (length (now (window .entry))) c which pointer ⌝ }
-    ensures { λ _. ⌜ now (window .exit) ≡ storedPointer (now (window .entry)) c which pointer ⌝ }
+// Bit 1 of a word that holds a read pointer is reserved: ignored in reading, 0 in writing.
+fn without_reserved(which: Pointer, word: Word) -> Word
+    ensures { λ r. ⌜ r ≡ cleared which word ⌝ }
 {
-    let refusal = refusal_to_store(window.len(), c, which, pointer);
-    if refusal == 0 {
-        let held = word_where(window, true, c, which);
-        lay_word(
-            window,
-            c,
-            which,
-            Word {
-                pointer,
-                bit1: held.bit1,
-                bit0: held.bit0,
-            },
-        );
+    Word {
+        pointer: word.pointer,
+        bit1: word.bit1 & has_up(which),
+        bit0: word.bit0,
     }
-    refusal
+}
+
+fn word_place(c: Configuration, which: Pointer) -> usize
+    ensures { λ r. ⌜ r ≡ wordPlace c which ⌝ }
+{
+    match which {
+        Pointer::H2bWrite => c.rws as usize,
+        Pointer::B2hRead => c.rws as usize + 4,
+        Pointer::B2hWrite => c.ros as usize,
+        Pointer::H2bRead => c.ros as usize + 4,
+    }
+}
+
+fn has_up(which: Pointer) -> bool
+    ensures { λ r. ⌜ r ≡ hasUp which ⌝ }
+{
+    match which {
+        Pointer::H2bWrite => true,
+        Pointer::B2hRead => false,
+        Pointer::B2hWrite => true,
+        Pointer::H2bRead => false,
+    }
+}
+
+fn points_into(which: Pointer) -> Area
+    ensures { λ r. ⌜ r ≡ pointsInto which ⌝ }
+{
+    match which {
+        Pointer::H2bWrite => Area::H2b,
+        Pointer::B2hRead => Area::B2h,
+        Pointer::B2hWrite => Area::B2h,
+        Pointer::H2bRead => Area::H2b,
+    }
 }

@@ -1,7 +1,7 @@
 -- `window::place::place_in` meets its contract.
 -- Assumes nothing.
 use mathlib.Core.Path.{sym, _∙_}
-use Rattle.window.specs.Window.{placeIn}
+use Rattle.window.specs.Places.{placeIn}
 use borrow.Author.Needs.{needs}
 use Rattle.window.proofs.place.place_in.Statement.{statement}
 use Rattle.window.proofs.place.place_in.Tie as tie

@@ -1,7 +1,7 @@
 -- `window::place::refusal` meets its contract.
 -- Assumes nothing.
 use mathlib.Core.Path.{sym, _∙_}
-use Rattle.window.specs.Window.{setupOf}
+use Rattle.window.specs.Places.{setupOf}
 use borrow.Author.Needs.{needs}
 use Rattle.window.proofs.place.refusal.Statement.{statement}
 use Rattle.window.proofs.place.refusal.Tie as tie

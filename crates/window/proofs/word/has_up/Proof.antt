@@ -3,7 +3,7 @@
 use mathlib.Core.Path.{_≡_, ap, sym}
 use borrow.Author.Needs.{needs}
 use Rattle.window.specs.declared.word.Pointer.{Pointer}
-use Rattle.window.specs.Window.{hasUp}
+use Rattle.window.specs.Words.{hasUp}
 use Rattle.window.proofs.word.has_up.Statement.{statement}
 use Rattle.window.proofs.word.has_up.Tie as tie
 

@@ -1,12 +1,12 @@
 -- `window::word::interface_of` meets its contract.
 -- Assumes nothing.
-use Rattle.window.specs.Window.{interfaceIn, wordIn}
+use Rattle.window.specs.Words.{interfaceIn}
 use borrow.Author.Needs.{needs}
 use Rattle.window.proofs.word.interface_of.Statement.{statement}
 use Rattle.window.proofs.word.interface_of.Tie as tie
 
 returns : tie.Need-returns
-unfolding interfaceIn wordIn
+unfolding interfaceIn
 returns c =
     rw (
       c .word-where4 .ensures,

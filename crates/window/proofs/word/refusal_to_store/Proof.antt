@@ -3,7 +3,7 @@
 use mathlib.Core.Path.{sym, _∙_}
 use borrow.Author.Needs.{needs}
 use borrow.Author.Tests.{not-true, not-false}
-use Rattle.window.specs.Window.{storeRefusal}
+use Rattle.window.specs.Words.{storeRefusal}
 use Rattle.window.proofs.word.refusal_to_store.Statement.{statement}
 use Rattle.window.proofs.word.refusal_to_store.Tie as tie
 
@@ -17,11 +17,9 @@ returns-2 c =
     let place = c .before .before .before in
     let asked = place .before .before in
     rw (
-      sym (asked .before .is-allowed .ensures)
-          ∙ not-false _ (asked .if1 .left),
+      sym (asked .before .is-allowed .ensures) ∙ not-false _ (asked .if1 .left),
       sym (place .before .points-into .ensures),
-      sym
-          (place .area-place .ensures),
+      sym (place .area-place .ensures),
       sym (c .before .pointer-right .ensures) ∙ c .if2 .taken,
     )
 
@@ -31,11 +29,9 @@ returns-3 c =
     let place = c .before .before .before in
     let asked = place .before .before in
     rw (
-      sym (asked .before .is-allowed .ensures)
-          ∙ not-false _ (asked .if1 .left),
+      sym (asked .before .is-allowed .ensures) ∙ not-false _ (asked .if1 .left),
       sym (place .before .points-into .ensures),
-      sym
-          (place .area-place .ensures),
+      sym (place .area-place .ensures),
       sym (c .before .pointer-right .ensures) ∙ c .if2 .left,
     )
 

@@ -1,6 +1,6 @@
 -- `window::word::without_reserved` meets its contract.
 -- Assumes nothing.
-use Rattle.window.specs.Window.{cleared}
+use Rattle.window.specs.Words.{cleared}
 use borrow.Author.Needs.{needs}
 use Rattle.window.proofs.word.without_reserved.Statement.{statement}
 use Rattle.window.proofs.word.without_reserved.Tie as tie

@@ -2,20 +2,21 @@
 -- Assumes nothing.
 use borrow.Author.Tests.{not-true, not-false}
 use Rattle.mmbi.specs.Words.{wordOf}
-use Rattle.window.specs.Window.{cleared}
+use Rattle.window.specs.Words.{cleared, wordWhere}
 use borrow.Author.Needs.{needs}
 use Rattle.window.proofs.word.word_where.Statement.{statement}
 use Rattle.window.proofs.word.word_where.Tie as tie
 
 returns : tie.Need-returns
-unfolding cleared wordOf
+unfolding cleared wordOf wordWhere
 returns c = rw (not-true (c .before .before .args .ok) (c .if1 .taken))
 
 returns-2 : tie.Need-returns-2
+unfolding wordWhere
 returns-2 c =
+    let asked = c .before .before .before .before in
     rw (
-      not-false (c .before .before .before .before .before .before .args .ok)
-          (c .before .before .before .before .if1 .left),
+      not-false (asked .before .before .args .ok) (asked .if1 .left),
       c .without-reserved .ensures,
       c .before .of-number .ensures,
       c .before .before .word-high-first .ensures,

@@ -1,12 +1,12 @@
--- What lies in a window by a configuration, which may be any: one that the window can't have is refused with 1.
+-- The words of Host_RWS and Host_ROS in a window, read and stored by a configuration, which may be any.
 -- Assumes nothing.
-use mathlib.Core.Path.{_≡_}
 use Prim.Native.Nat.{ℕ, _+_}
 use mathlib.Core.Bool.{Bool, true, false, _&&_}
-use mathlib.Core.List.{List}
+use mathlib.Core.List.{List, [], _∷_}
 use lib.Dec.{eqb}
-use lib.ListN.{length, take, drop}
+use lib.ListN.{length}
 use Rattle.octets.specs.Bytes.{laid}
+use Rattle.octets.specs.Checks.{Check, _unless_, firstFailing}
 use Rattle.octets.specs.Choice.{pick}
 use Rattle.octets.specs.Words.{highFirst, wordAt, wordBytes}
 use Rattle.mmbi.specs.declared.word.Word.{Word}
@@ -14,34 +14,12 @@ use Rattle.mmbi.specs.Interface.{flagsOf}
 use Rattle.mmbi.specs.Pointers.{pointerRight}
 use Rattle.mmbi.specs.Words.{wordOf, numberOf}
 use Rattle.descriptor.specs.Configuration.{areaPlace, allowed}
-use Rattle.descriptor.specs.Places.{endOf}
-use Rattle.descriptor.specs.declared.place.Place.{Place}
 use Rattle.descriptor.specs.declared.configuration.Configuration.{Configuration}
 use Rattle.descriptor.specs.declared.configuration.Area.{Area}
 use Rattle.descriptor.specs.declared.configuration.Area.the-variants.{B2h, H2b}
 use Rattle.window.specs.declared.word.Pointer.{Pointer}
 use Rattle.window.specs.declared.word.Pointer.the-variants.{H2bWrite, B2hRead, B2hWrite, H2bRead}
 use Rattle.window.specs.declared.word.Interface.{Interface}
-
--- "1 .. setup": the configuration is none that document 01's list lets a window of this size have
-unfoldable pub setupOf : ℕ → Configuration → ℕ
-setupOf window c = pick (allowed window c) 0 1
-
--- where an area lies; a place of no bytes where refused
-unfoldable pub placeIn : ℕ → Configuration → Area → Place
-placeIn window c area = pick (allowed window c) (areaPlace c area) (record { offset = 0; length = 0 })
-
--- the bytes that stand at a place
-abbrev pub bytesAt : List ℕ → Place → List ℕ
-bytesAt s p = take (p .length) (drop (p .offset) s)
-
--- the area's bytes; none where refused
-unfoldable pub areaOf : List ℕ → Configuration → Area → List ℕ
-areaOf s c area = bytesAt s (placeIn (length s) c area)
-
--- the window once an area that was lent out of it is back with these bytes
-abbrev pub putBack : List ℕ → Configuration → Area → List ℕ → List ℕ
-putBack s c area bytes = laid s (areaPlace c area .offset) bytes
 
 -- Table 3: "0:3 .. H2B_WP", "4:7 .. B2H_RP" of Host_RWS; Table 4: "0:3 .. B2H_WP", "4:7 .. H2B_RP" of Host_ROS
 abbrev pub wordPlace : Configuration → Pointer → ℕ
@@ -61,9 +39,13 @@ hasUp H2bRead = false
 unfoldable pub cleared : Pointer → Word → Word
 cleared p w = record { pointer = w .pointer; bit1 = w .bit1 && hasUp p; bit0 = w .bit0 }
 
--- the word that holds a pointer; where refused the pointer is 0 and the flags are clear
-unfoldable pub wordIn : List ℕ → Configuration → Pointer → Word
-wordIn s c p = cleared p (wordOf (pick (allowed (length s) c) (wordAt highFirst s (wordPlace c p)) 0))
+-- the word that holds a pointer, where `ok`; else the pointer is 0 and the flags are clear
+unfoldable pub wordWhere : Bool → List ℕ → Configuration → Pointer → Word
+wordWhere ok s c p = cleared p (wordOf (pick ok (wordAt highFirst s (wordPlace c p)) 0))
+
+-- the same where the configuration is allowed
+abbrev pub wordIn : List ℕ → Configuration → Pointer → Word
+wordIn s c = wordWhere (allowed (length s) c) s c
 
 -- all four words, by what they say
 unfoldable pub interfaceIn : List ℕ → Configuration → Interface
@@ -86,9 +68,12 @@ pointsInto B2hWrite = B2h
 pointsInto H2bRead = H2b
 
 -- 1: a configuration that the window doesn't allow; 12: "not a multiple of 4, or not below the length" of its ring
+abbrev pub storeOrder : ℕ → Configuration → Pointer → ℕ → List (Check ℕ)
+storeOrder window c p at =
+    1 unless allowed window c ∷ 12 unless pointerRight (areaPlace c (pointsInto p) .length) at ∷ []
+
 unfoldable pub storeRefusal : ℕ → Configuration → Pointer → ℕ → ℕ
-storeRefusal window c p at =
-    pick (allowed window c) (pick (pointerRight (areaPlace c (pointsInto p) .length) at) 0 12) 1
+storeRefusal window c p at = firstFailing (storeOrder window c p at) 0
 
 -- a word's four bytes, laid where its pointer is held
 abbrev pub withWord : List ℕ → Configuration → Pointer → Word → List ℕ
@@ -98,16 +83,10 @@ withWord s c p w = laid s (wordPlace c p) (wordBytes highFirst (numberOf (cleare
 unfoldable pub stored : List ℕ → Configuration → Pointer → Word → List ℕ
 stored s c p w = pick (eqb (storeRefusal (length s) c p (w .pointer)) 0) (withWord s c p w) s
 
+-- another pointer beside the same flags
+abbrev pub pointing : Word → ℕ → Word
+pointing w at = record { pointer = at; bit1 = w .bit1; bit0 = w .bit0 }
+
 -- the window after a pointer alone is stored: the flags are those that stood there
 unfoldable pub storedPointer : List ℕ → Configuration → Pointer → ℕ → List ℕ
-storedPointer s c p at = stored s c p (record { pointer = at; bit1 = wordIn s c p .bit1; bit0 = wordIn s c p .bit0 })
-
--- a ring with other bytes, and the window else as it was: all before and behind it, so the descriptor, both structures
--- and the other ring
-pub record RingChanged (s : List ℕ) (c : Configuration) (ring : Area) (bytes : List ℕ) : Type 0 where
-  pub before : take (areaPlace c ring .offset) (putBack s c ring bytes) ≡ take (areaPlace c ring .offset) s
-  pub behind : drop (endOf (areaPlace c ring)) (putBack s c ring bytes) ≡ drop (endOf (areaPlace c ring)) s
-  pub descriptor : take 64 (putBack s c ring bytes) ≡ take 64 s
-  pub others : (other : Area) → (other ≡ ring → ⊥) → areaOf (putBack s c ring bytes) c other ≡ areaOf s c other
-  pub words : interfaceIn (putBack s c ring bytes) c ≡ interfaceIn s c
-  pub itself : areaOf (putBack s c ring bytes) c ring ≡ bytes
+storedPointer s c p at = stored s c p (pointing (wordIn s c p) at)
