@@ -13,7 +13,7 @@ use Rattle.transcript.specs.Last.{closing}
 use Rattle.bench.specs.declared.Ended.{Ended}
 use Rattle.bench.specs.Sending.{capped}
 use Rattle.bench.specs.Reads.{cameIn, goesOn}
-use Rattle.bench.specs.Program.{toSend}
+use Rattle.bench.specs.Main.{toSend}
 use Rattle.bench.proofs.run.Reads as run
 
 is-false : (b : Bool) → (b ≡ true → ⊥) → b ≡ false

@@ -22,7 +22,7 @@ use Rattle.bench.specs.declared.sending.Sent.{Sent}
 use Rattle.bench.specs.declared.Turned.{Turned}
 use Rattle.bench.specs.Sending.{nothingSent, Sends}
 use Rattle.bench.specs.Reads.{cameIn, goesOn}
-use Rattle.bench.specs.Program.{Turns, Runs}
+use Rattle.bench.specs.Main.{Turns, Runs}
 use Rattle.bench.proofs.Sends.{sends-none, sends-both}
 use Rattle.bench.proofs.Closings.{closing-size, closing-front}
 

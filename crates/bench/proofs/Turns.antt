@@ -22,7 +22,7 @@ use Rattle.transcript.proofs.Fronts.{between-is, moved-front}
 use Rattle.bench.specs.declared.sending.Sent.{Sent}
 use Rattle.bench.specs.declared.Filled.{Filled}
 use Rattle.bench.specs.declared.Drained.{Drained}
-use Rattle.bench.specs.Program.{Turns}
+use Rattle.bench.specs.Main.{Turns}
 use Rattle.bench.proofs.Drains.{Drains}
 
 -- two differences are above 0 together

@@ -1,3 +1,3 @@
 pub mod Reads
 pub mod Sending
-pub mod Program
+pub mod Main

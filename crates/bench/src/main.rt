@@ -12,7 +12,7 @@ ghost use Rattle.records.specs.Line.{put};
 ghost use Rattle.transcript.specs.Taking.{runOn};
 ghost use Rattle.transcript.specs.Last.{closing};
 ghost use Rattle.bench.specs.Sending.{Sends};
-ghost use Rattle.bench.specs.Program.{Turns, Runs};
+ghost use Rattle.bench.specs.Main.{Turns, Runs};
 
 // "it keeps message memory of 4,096 zero bytes"
 fn main() {

@@ -12,6 +12,18 @@ use lib.Dec.{lit<}
 use lib.ListN.{length, getD, length-append}
 use Rattle.records.specs.Decimal.{digits, decimal}
 
+-- A law of every number by its digits: of one digit, and of a number whose tenth has the law.
+module _ (P : ℕ → Type 0) (one : (n : ℕ) → n < 10 → P n) (more : (n : ℕ) → 10 ≤ n → P (n / 10) → P n) where
+  by-size : (most n : ℕ) → n < most → P n
+  by-size zero n h = absurd (omega arith)
+  by-size (suc most) n h =
+      by-cases (decLt n 10)
+      (λ (few : n < 10). one n few)
+      (λ (few : n < 10 → ⊥). more n (omega arith) (by-size most (n / 10) (omega arith)))
+
+  pub by-digits : (n : ℕ) → P n
+  by-digits n = by-size (suc n) n (omega arith)
+
 -- a number below ten, and one of more digits
 digits-one : (k n : ℕ) → n < 10 → digits (suc k) n ≡ (48 + n) ∷ []
 unfolding digits
@@ -84,38 +96,23 @@ unfolding madeFrom
 made-append n [] b = refl
 made-append n (x ∷ a) b = made-append (n * 10 + (x - 48)) a b
 
-digits-made : (k n : ℕ) → n < 10 ^ k → madeFrom 0 (digits k n) ≡ n
-unfolding digits madeFrom
-digits-made zero n h = omega arith
-digits-made (suc k) n h =
-    by-cases (decLt n 10)
-    (λ (few : n < 10). rw (lt-ltb n 10 few) (omega arith))
-    (λ (few : n < 10 → ⊥).
-    rw (
-      le-ltb n 10 (omega arith),
-      made-append,
-      digits-made k (n / 10) (div-lt-iff-lt-mul (lit< tt) .1 (rw pow-suc at h)),
-    ) (omega arith))
-
 pub decimal-made : (n : ℕ) → n < 10 ^ 20 → madeFrom 0 (decimal n) ≡ n
-unfolding decimal
-decimal-made n h = digits-made 20 n h
+unfolding madeFrom
+decimal-made =
+    by-digits (λ (n : ℕ). n < 10 ^ 20 → madeFrom 0 (decimal n) ≡ n)
+    (λ (n : ℕ) (few : n < 10) (h : n < 10 ^ 20). rw (decimal-one n few) (omega arith))
+    (λ (n : ℕ) (m : 10 ≤ n) (tenth : n / 10 < 10 ^ 20 → madeFrom 0 (decimal (n / 10)) ≡ n / 10) (h : n < 10 ^ 20).
+    rw (decimal-more n h m, made-append, tenth (omega arith)) (omega arith))
 
 in-front : (a b : List ℕ) → 49 ≤ getD a 0 0 → 49 ≤ getD (a ++ b) 0 0
 in-front [] b h = absurd (omega arith)
 in-front (x ∷ a) b h = h
 
 -- shortest: but for 0 the first letter is no 0
-first-letter : (k n : ℕ) → 1 ≤ n → n < 10 ^ k → 49 ≤ getD (digits k n) 0 0
-unfolding digits
-first-letter zero n h b = absurd (omega arith)
-first-letter (suc k) n h b =
-    by-cases (decLt n 10)
-    (λ (few : n < 10). rw (lt-ltb n 10 few) (omega arith))
-    (λ (few : n < 10 → ⊥).
-    let high = first-letter k (n / 10) (omega arith) (div-lt-iff-lt-mul (lit< tt) .1 (rw pow-suc at b)) in
-    rw (le-ltb n 10 (omega arith)) (in-front (digits k (n / 10)) ((48 + n % 10) ∷ []) high))
-
 pub decimal-shortest : (n : ℕ) → 1 ≤ n → n < 10 ^ 20 → 49 ≤ getD (decimal n) 0 0
-unfolding decimal
-decimal-shortest n h b = first-letter 20 n h b
+decimal-shortest =
+    by-digits (λ (n : ℕ). 1 ≤ n → n < 10 ^ 20 → 49 ≤ getD (decimal n) 0 0)
+    (λ (n : ℕ) (few : n < 10) (some : 1 ≤ n) (h : n < 10 ^ 20). rw (decimal-one n few) (omega arith))
+    (λ (n : ℕ) (m : 10 ≤ n) (tenth : 1 ≤ n / 10 → n / 10 < 10 ^ 20 → 49 ≤ getD (decimal (n / 10)) 0 0) (some : 1 ≤ n)
+    (h : n < 10 ^ 20).
+    rw (decimal-more n h m) (in-front (decimal (n / 10)) ((48 + n % 10) ∷ []) (tenth (omega arith) (omega arith))))

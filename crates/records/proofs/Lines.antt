@@ -1,4 +1,4 @@
--- Lines: how long they are, one part laid after the other, and a line put or not.
+-- Lines: how long they are, one piece laid after the other, and a line put or not.
 -- Assumes nothing.
 use mathlib.Core.Path.{_≡_, refl, ap, sym, _∙_}
 use mathlib.Core.Bool.{Bool, true, false}
@@ -19,7 +19,7 @@ use Rattle.records.specs.Line.{doneSlot, lengthWord, heldSlot, bytesWord
 use Rattle.records.specs.Line.{named, ending, pair, lineBytes, lastLine, put, placeAfter, Placed}
 use Rattle.records.proofs.Decimals.{decimal-most}
 
--- the sizes of the parts
+-- the sizes of the pieces
 pub named-size : (word : List ℕ) (n : ℕ) → length (named word n) ≡ length word + length (decimal n)
 unfolding named
 named-size word n = length-append word (decimal n)
@@ -93,7 +93,7 @@ line-most n (Refused number) = omega (arith, refused-size n number, decimal-most
 pub last-line-most : (arrivals packets : ℕ) → length (lastLine arrivals packets) ≤ 86
 last-line-most arrivals packets = omega (arith, last-size arrivals packets, decimal-most arrivals, decimal-most packets)
 
--- one part laid after the other
+-- one piece laid after the other
 pub placed-append : {l m o : List ℕ} {at p q : ℕ} (a b : List ℕ) → Placed l at a p m → Placed m p b q o
     → Placed l at (a ++ b) q o
 placed-append {l} {m} {o} {at} {p} {q} a b x y =

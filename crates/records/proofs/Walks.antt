@@ -1,4 +1,4 @@
--- The walk from the front: step by step, over whole records, and of a list that comes in parts.
+-- The walk from the front: step by step, over whole records, and of a list that comes in pieces.
 -- Assumes nothing.
 use mathlib.Core.Path.{_≡_, refl, ap, sym, subst, _∙_}
 use mathlib.Core.List.{List, [], _∷_, _++_, append-assoc, append-nil}
@@ -146,22 +146,22 @@ rest-short =
     (behind : Below 256 (drop size s) → length (restOf (drop size s)) < 256) (bytes : Below 256 (size ∷ s)).
     rw (rest-whole size s h) (behind (λ (i : ℕ). rw getD-drop (bytes (suc (size + i))))))
 
--- a list that comes in two parts: the records of the first, then those of what it left with the second behind it
+-- a list that comes in two pieces: the records of the first, then those of what it left with the second behind it
 module _ (s t : List ℕ) where
-  parts : s ++ t ≡ joined (recordsOf s) ++ (restOf s ++ t)
-  parts = ap (λ (l : List ℕ). l ++ t) (sym (records-split s)) ∙ append-assoc (joined (recordsOf s)) (restOf s) t
+  pieces : s ++ t ≡ joined (recordsOf s) ++ (restOf s ++ t)
+  pieces = ap (λ (l : List ℕ). l ++ t) (sym (records-split s)) ∙ append-assoc (joined (recordsOf s)) (restOf s) t
 
   pub records-append : recordsOf (s ++ t) ≡ recordsOf s ++ recordsOf (restOf s ++ t)
-  records-append = ap recordsOf parts ∙ records-joined (recordsOf s) (restOf s ++ t)
+  records-append = ap recordsOf pieces ∙ records-joined (recordsOf s) (restOf s ++ t)
 
   pub rest-append : restOf (s ++ t) ≡ restOf (restOf s ++ t)
-  rest-append = ap restOf parts ∙ rest-joined (recordsOf s) (restOf s ++ t)
+  rest-append = ap restOf pieces ∙ rest-joined (recordsOf s) (restOf s ++ t)
 
 -- "arrivals": each whole record is one, of an empty frame too; "A last record cut short" is none
 unfoldable pub arrivalsIn : List ℕ → ℕ
 arrivalsIn s = length (recordsOf s)
 
--- and they are counted part by part
+-- and they are counted piece by piece
 pub arrivals-append : (s t : List ℕ) → arrivalsIn (s ++ t) ≡ arrivalsIn s + arrivalsIn (restOf s ++ t)
 unfolding arrivalsIn
 arrivals-append s t = ap length (records-append s t) ∙ length-append (recordsOf s) (recordsOf (restOf s ++ t))

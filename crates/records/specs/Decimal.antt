@@ -6,7 +6,7 @@ use lib.Dec.{ltb}
 use Rattle.octets.specs.Choice.{pick}
 
 -- at most so many digits, the highest first and none before the first that counts; the letter 0 is 48
-unfoldable pub digits : ℕ → ℕ → List ℕ
+unfoldable pub digits : (most n : ℕ) → List ℕ
 digits zero n = []
 digits (suc most) n = pick (ltb n 10) ((48 + n) ∷ []) (digits most (n / 10) ++ ((48 + n % 10) ∷ []))
 

@@ -50,25 +50,25 @@ ending true = 32 ∷ 97 ∷ 103 ∷ 97 ∷ 105 ∷ 110 ∷ 10 ∷ []
 ending false = 10 ∷ []
 
 -- two words, each with its number, and the ending
-unfoldable pub pair : List ℕ → ℕ → List ℕ → ℕ → Bool → List ℕ
+unfoldable pub pair : (first : List ℕ) (a : ℕ) (second : List ℕ) (b : ℕ) (again : Bool) → List ℕ
 pair first a second b again = named first a ++ (named second b ++ ending again)
 
 -- line N: `1 done slot 0 length 1`, "a held line is `N held slot S bytes B`", `2 refused 3`
-unfoldable pub lineBytes : ℕ → Line → List ℕ
+unfoldable pub lineBytes : (number : ℕ) → Line → List ℕ
 lineBytes n (Done slot size again) = decimal n ++ pair doneSlot slot lengthWord size again
 lineBytes n (Held slot bytes again) = decimal n ++ pair heldSlot slot bytesWord bytes again
 lineBytes n (Refused number) = decimal n ++ (named refusedWord number ++ ending false)
 
 -- `arrivals 2 packets 1`
-unfoldable pub lastLine : ℕ → ℕ → List ℕ
+unfoldable pub lastLine : (arrivals packets : ℕ) → List ℕ
 lastLine arrivals packets = pair arrivalsWord arrivals packetsWord packets false
 
 -- a line is put whole or not at all
-unfoldable pub put : List ℕ → ℕ → List ℕ → List ℕ
+unfoldable pub put : (out : List ℕ) (at : ℕ) (line : List ℕ) → List ℕ
 put out at line = pick (leb (at + length line) (length out)) (laid out at line) out
 
 -- the place after a line; where it was not put, the place stays (a line has a byte at least)
-unfoldable pub placeAfter : List ℕ → ℕ → List ℕ → ℕ
+unfoldable pub placeAfter : (out : List ℕ) (at : ℕ) (line : List ℕ) → ℕ
 placeAfter out at line = pick (leb (at + length line) (length out)) (at + length line) at
 
 -- bytes laid from a place on, and the place behind them

@@ -9,7 +9,7 @@ use Rattle.records.specs.declared.record.Record.{Record}
 use Rattle.records.specs.declared.record.Record.the-variants.{Whole, Cut, End}
 
 -- "each a length byte and that many bytes of one SMBus frame": what stands at place `at` of s, from its length byte on
-unfoldable pub recordAt : List ℕ → ℕ → Record
+unfoldable pub recordAt : List ℕ → (at : ℕ) → Record
 recordAt s at =
     pick (leb (length s) at) End
     (pick (leb (at + 1 + getD s at 0) (length s)) (Whole (at + 1) (getD s at 0))
@@ -33,7 +33,7 @@ abbrev pub found : List ℕ → Walk → Walk
 found frame w = record { frames = frame ∷ w .frames; rest = w .rest }
 
 -- the walk, of at most so many steps: "A last record cut short ends the run without a line."
-unfoldable pub walk : ℕ → List ℕ → Walk
+unfoldable pub walk : (steps : ℕ) → List ℕ → Walk
 walk zero s = record { frames = []; rest = s }
 walk (suc steps) [] = record { frames = []; rest = [] }
 walk (suc steps) (size ∷ s) =

@@ -17,6 +17,10 @@ no-bytes [] h = refl
 no-bytes (x ∷ l) h = absurd (omega arith)
 
 module _ (s : List ℕ) (from end : ℕ) where
+  -- the list with the first i bytes moved
+  abbrev pub movedUpTo : ℕ → List ℕ
+  movedUpTo i = laid s 0 (take i (between s from end))
+
   pub between-size : length (between s from end) ≡ min end (length s) - from
   unfolding between
   between-size = simp (length-take, length-drop) (omega arith)
@@ -36,23 +40,22 @@ module _ (s : List ℕ) (from end : ℕ) where
       (omega (arith, between-size), rw none)
 
   -- all of it
-  pub moved-all : (n : ℕ) → n ≡ min end (length s) - from → laid s 0 (take n (between s from end)) ≡ movedOf s from end
+  pub moved-all : (n : ℕ) → n ≡ min end (length s) - from → movedUpTo n ≡ movedOf s from end
   unfolding movedOf
   moved-all n e = ap (laid s 0) (take-all n (between s from end) (omega (arith, between-size)))
 
-  -- a turn
+  -- one byte more
   pub moved-next : (i : ℕ) → i < min end (length s) - from
-      → set (laid s 0 (take i (between s from end))) i (getD (laid s 0 (take i (between s from end))) (from + i) 0)
-      ≡ laid s 0 (take (suc i) (between s from end))
+      → set (movedUpTo i) i (getD (movedUpTo i) (from + i) 0) ≡ movedUpTo (suc i)
   unfolding between
   moved-next i h =
       let size = between-size in
-      let part = length-take-le i (between s from end) (omega arith) in
-      let here : getD (laid s 0 (take i (between s from end))) (from + i) 0 ≡ getD (between s from end) i 0 =
+      let first = length-take-le i (between s from end) (omega arith) in
+      let here : getD (movedUpTo i) (from + i) 0 ≡ getD (between s from end) i 0 =
       laid-behind s 0 (take i (between s from end)) (from + i) (omega arith)
       ∙ sym (getD-take (end - from) (drop from s) i 0 (omega arith) ∙ getD-drop from s i 0) in
-      rw here (ap (λ (k : ℕ). set (laid s 0 (take i (between s from end))) k (getD (between s from end) i 0))
-      (sym (zero-add i)) ∙ laid-next s 0 (between s from end) i (omega arith))
+      rw here (ap (λ (k : ℕ). set (movedUpTo i) k (getD (between s from end) i 0)) (sym (zero-add i))
+      ∙ laid-next s 0 (between s from end) i (omega arith))
 
   -- what was moved stands at the front
   pub moved-front : take (length (between s from end)) (movedOf s from end) ≡ between s from end

@@ -24,7 +24,7 @@ run-append s m (f ∷ a) b =
     ap (behindText (frameOf s m f .text)) (run-append (frameOf s m f .state) (frameOf s m f .memory) a b)
     ∙ behind-both (frameOf s m f .text) _ _
 
--- however the input is cut: the rest of the first part goes on with the second behind it
+-- however the input is cut: the rest of the first piece goes on with the second behind it
 pub run-cut : (s : State) (m a b : List ℕ)
     → runOn s m (a ++ b)
     ≡ behindText (runOn s m a .text) (runOn (runOn s m a .state) (runOn s m a .memory) (restOf a ++ b))

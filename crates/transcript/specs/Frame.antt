@@ -30,5 +30,5 @@ counted s a =
     }
 
 -- one frame's arrival at our own address
-unfoldable pub frameOf : State → List ℕ → List ℕ → Ran
+unfoldable pub frameOf : State → (memory frame : List ℕ) → Ran
 frameOf s m frame = counted s (arrivedOf 64 (s .receiver) m (smbusBrings 64 frame ownAddress))

@@ -11,5 +11,5 @@ abbrev pub closing : State → List ℕ
 closing s = lastLine (s .arrivals) (s .packets)
 
 -- all that the bench program writes on an input, from a given memory
-unfoldable pub transcriptOf : List ℕ → List ℕ → List ℕ
+unfoldable pub transcriptOf : (memory input : List ℕ) → List ℕ
 transcriptOf m input = runOn start m input .text ++ closing (runOn start m input .state)

@@ -35,28 +35,14 @@ room k = omega (arith, head k .loop .inv .1, entry k .pre)
 one : (k : tie.After-chunk Inv-loop μ-loop)
     → Chunked (head k .loop .state) (head k .loop .memory) (drop (head k .loop .read) (entry k .args .bytes .now))
     (head k .loop .output) (k .chunk .result) (k .chunk .last .1 .0) (k .chunk .last .1 .1 .1 .0)
-one k =
-    let l = head k .loop in
-    chunk (l .inv .0) (l .output) (room k) (k .chunk .ensures)
+one k = chunk (head k .loop .inv .0) (head k .loop .output) (room k) (k .chunk .ensures)
 
 -- and what is to do behind it
 on : (c : tie.After-send Inv-loop μ-loop)
     → Going (entry (behind c) .args .before) (entry (behind c) .args .memory .now) (entry (behind c) .args .bytes .now)
     (entry (behind c) .args .earlier) (behind c .chunk .result .state) (behind c .chunk .last .1 .0) (c .send .result)
     (head (behind c) .loop .read + behind c .chunk .result .read)
-on c =
-    let k = behind c in
-    let l = head k .loop in
-    going-on (l .inv .0) (one k) (c .send .result) (c .send .ensures)
-
-sub-chunk : tie.Need-sub-chunk Inv-loop μ-loop
-sub-chunk c = c .before .loop .inv .0 .within
-
-part-chunk-start : tie.Need-part-chunk-start Inv-loop μ-loop
-part-chunk-start c = omega (arith, c .before .loop .inv .0 .within)
-
-part-chunk-end : tie.Need-part-chunk-end Inv-loop μ-loop
-part-chunk-end c = omega (arith, c .before .loop .inv .0 .within)
+on c = going-on (head (behind c) .loop .inv .0) (one (behind c)) (c .send .result) (c .send .ensures)
 
 part-send-end : tie.Need-part-send-end Inv-loop μ-loop
 part-send-end c =
@@ -92,9 +78,9 @@ drain-spec =
     Inv-loop
     μ-loop
     (λ c. (going-start _ _ _ _, refl, refl))
-    sub-chunk
-    part-chunk-start
-    part-chunk-end
+    (λ c. c .before .loop .inv .0 .within)
+    (λ c. omega (arith, c .before .loop .inv .0 .within))
+    (λ c. omega (arith, c .before .loop .inv .0 .within))
     (λ c κs. tt)
     (λ c. omega arith)
     (λ c. omega arith)

@@ -5,16 +5,15 @@ use mathlib.Core.Path.{_≡_, refl, _∙_}
 use Prim.Native.Nat.{_-_, _≤_}
 use native.Mathlib.Numerals.{add-one}
 use native.Mathlib.Omega.{arith}
-use lib.ListN.{length, take, length-set}
+use lib.ListN.{length, length-set}
 use Rattle.octets.specs.Bytes.{laid}
-use Rattle.transcript.specs.Front.{between}
-use Rattle.transcript.proofs.Fronts.{between-size, moved-none, moved-all, moved-next}
+use Rattle.transcript.proofs.Fronts.{movedUpTo, between-size, moved-none, moved-all, moved-next}
 use Rattle.transcript.proofs.front.to_front.Statement.{statement}
 use Rattle.transcript.proofs.front.to_front.Tie as tie
 
 abbrev Inv-loop : tie.InvT-loop
 Inv-loop bytes₀ from end stop count i₀ bytes i =
-    (i ≤ count) × (bytes ≡ laid bytes₀ 0 (take i (between bytes₀ from end))) × (length bytes ≡ length bytes₀)
+    (i ≤ count) × (bytes ≡ movedUpTo bytes₀ from end i) × (length bytes ≡ length bytes₀)
 
 abbrev μ-loop : tie.MeasureT-loop
 μ-loop bytes₀ from end stop count i₀ bytes i = count - i

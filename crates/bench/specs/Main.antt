@@ -31,7 +31,7 @@ pub record Turns (s : State) (m held : List ℕ) (earlier : Sent) (t : Turned) (
   pub more : t .more ≡ ((not (t .failed) && not (t .sent .failed)) && ltb 0 (length came))
 
 -- the transcript, or, where a read failed, its lines without the last one
-abbrev pub toSend : Bool → List ℕ → List ℕ → List ℕ
+abbrev pub toSend : (failed : Bool) → (memory input : List ℕ) → List ℕ
 toSend failed m input = pick failed (runOn start m input .text) (transcriptOf m input)
 
 -- the whole run, on all that came, however the reads cut it: the state, the memory and the last line are those of
