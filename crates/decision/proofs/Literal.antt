@@ -12,9 +12,8 @@ use Rattle.slots.specs.Slots.{firstOf, slotOf, lowestFree}
 use Rattle.slots.specs.State.{multiple, rightNumbers, rightSlot, clash, rightState}
 use Rattle.slots.specs.Changes.{freeSlot, fresh}
 use Rattle.slots.proofs.Literal.{with-slots, card, key, slot, gathering}
-use Rattle.decision.specs.Checks.{setupRefusal, packetRefusal, sourceRefusal}
 use Rattle.decision.specs.Rules.{Decision, refuse, release, put, after, onStart, gathered, onFollow, ruled}
-use Rattle.decision.specs.Decision.{fromSource, fromPacket, decided}
+use Rattle.decision.specs.Decision.{decided}
 
 -- a packet from EID 10 to EID 9 with these flags and n bytes of one value
 abbrev pub packet : ℕ → ℕ → ℕ → List ℕ
@@ -86,7 +85,7 @@ pub record Literals : Type 0 where
       ∷ []
 
 pub literals : Literals
-unfolding decided fromPacket fromSource setupRefusal packetRefusal sourceRefusal ruled onStart onFollow gathered after
+unfolding decided ruled onStart onFollow gathered after
     slotOf lowestFree firstOf headerOf keyOf sameKey rightState rightSlot rightNumbers multiple clash
 literals =
     record {

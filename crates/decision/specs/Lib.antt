@@ -1,4 +1,3 @@
 pub mod Checks
 pub mod Rules
 pub mod Decision
-pub mod Possible

@@ -1,10 +1,11 @@
 -- What the rules decide on a packet that no check refused, from its header and its body's size n: start, or not start.
 -- Assumes nothing.
 use Prim.Native.Nat.{ℕ, _+_, _%_}
-use mathlib.Core.Bool.{Bool, true, false, not}
-use mathlib.Core.List.{List}
-use lib.Dec.{eqb, ltb}
+use mathlib.Core.Bool.{Bool, true, false}
+use mathlib.Core.List.{List, [], _∷_}
+use lib.Dec.{eqb, leb, ltb}
 use Rattle.octets.specs.Choice.{pick}
+use Rattle.octets.specs.Checks.{Check, _unless_, firstFailing}
 use Rattle.mctp.specs.declared.packet.Header.{Header}
 use Rattle.mctp.specs.Refusals.{numberOf}
 use Rattle.slots.specs.declared.state.Slot.{Slot}
@@ -39,18 +40,23 @@ onStart slots h n =
     (pick (ltb (lowestFree slots 0 4) 4) (put (lowestFree slots 0 4) 0 false (after h n n))
     (refuse 18))
 
--- "a middle body differs from the unit, or an end body exceeds it"
-abbrev pub wrongUnit : Bool → ℕ → ℕ → Bool
-wrongUnit end unit n = pick end (ltb unit n) (not (eqb n unit))
+-- "a middle body differs from the unit, or an end body exceeds it": what 21 lets through
+abbrev pub unitRight : (end : Bool) → (unit n : ℕ) → Bool
+unitRight end unit n = pick end (leb n unit) (eqb n unit)
 
 -- "20 if sequence is not last + 1 modulo 4; 21 if a middle body differs from the unit, or an end body exceeds it;
--- 22 if held + body exceeds 1,024. Else the body is appended."
-unfoldable pub gathered : ℕ → ℕ → ℕ → ℕ → Header → ℕ → Decision
+-- 22 if held + body exceeds 1,024."
+abbrev pub gatherOrder : (slot last unit held : ℕ) → Header → (n : ℕ) → List (Check Decision)
+gatherOrder slot last unit held h n =
+    release slot 20 unless eqb (h .sequence) ((last + 1) % 4)
+    ∷ release slot 21 unless unitRight (h .end) unit n
+    ∷ release slot 22 unless leb (held + n) 1024
+    ∷ []
+
+-- "Else the body is appended."
+unfoldable pub gathered : (slot last unit held : ℕ) → Header → (n : ℕ) → Decision
 gathered slot last unit held h n =
-    pick (not (eqb (h .sequence) ((last + 1) % 4))) (release slot 20)
-    (pick (wrongUnit (h .end) unit n) (release slot 21)
-    (pick (ltb 1024 (held + n)) (release slot 22)
-    (put slot held false (after h unit (held + n)))))
+    firstFailing (gatherOrder slot last unit held h n) (put slot held false (after h unit (held + n)))
 
 -- "19 if no slot has the key"
 abbrev pub follow : ℕ → SlotState → Header → ℕ → Decision

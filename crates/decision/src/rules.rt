@@ -5,13 +5,11 @@ use mctp::Refusal;
 use slots::Receiver;
 use slots::SlotState;
 ghost use mathlib.Core.Path.{_≡_};
-ghost use Rattle.decision.specs.Rules.{planned, after, wrongUnit, onStart, gathered, follow, onFollow, ruled};
+ghost use Rattle.decision.specs.Rules.{planned, after, unitRight, onStart, gathered, onFollow, ruled};
 
 // What is to be done with a packet.
 pub enum Plan {
-    Refuse {
-        refusal: Refusal,
-    },
+    Refuse(Refusal),
     // The slot becomes free.
     Release {
         slot: u8,
@@ -26,19 +24,13 @@ pub enum Plan {
     },
 }
 
-fn state_after(header: Header, unit: u8, held: u16) -> SlotState
-    ensures { λ r. ⌜ r ≡ after header unit held ⌝ }
+pub fn rule(receiver: Receiver, header: Header, body: u8) -> Plan
+    ensures { λ r. ⌜ planned r ≡ ruled (receiver .slots) header body ⌝ }
 {
-    if header.end {
-        return SlotState::Free;
+    if header.start {
+        return on_start(receiver, header, body);
     }
-    let key = header.key;
-    SlotState::Gathering {
-        key: key,
-        sequence: header.sequence,
-        unit: unit,
-        held: held,
-    }
+    on_follow(receiver, header, body)
 }
 
 fn on_start(receiver: Receiver, header: Header, body: u8) -> Plan
@@ -63,15 +55,24 @@ fn on_start(receiver: Receiver, header: Header, body: u8) -> Plan
             then: then,
         };
     }
-    Plan::Refuse {
-        refusal: Refusal::NoSlot,
-    }
+    Plan::Refuse(Refusal::NoSlot)
 }
 
-fn wrong_unit(end: bool, unit: u8, body: u8) -> bool
-    ensures { λ r. ⌜ r ≡ wrongUnit end unit body ⌝ }
+// Where no slot has the key there is none of its number, and that reads as free.
+fn on_follow(receiver: Receiver, header: Header, body: u8) -> Plan
+    ensures { λ r. ⌜ planned r ≡ onFollow (receiver .slots) header body ⌝ }
 {
-    if end { unit < body } else { body != unit }
+    let slot = slots::slot_of(receiver, header.key);
+    let state = slots::state_at(receiver, slot as usize);
+    match state {
+        SlotState::Free => Plan::Refuse(Refusal::NoStart),
+        SlotState::Gathering {
+            key: _,
+            sequence,
+            unit,
+            held,
+        } => { gather(slot, sequence, unit, held, header, body) }
+    }
 }
 
 fn gather(slot: u8, sequence: u8, unit: u8, held: u16, header: Header, body: u8) -> Plan
@@ -85,7 +86,7 @@ fn gather(slot: u8, sequence: u8, unit: u8, held: u16, header: Header, body: u8)
             refusal: Refusal::Sequence,
         };
     }
-    if wrong_unit(header.end, unit, body) {
+    if !unit_right(header.end, unit, body) {
         return Plan::Release {
             slot: slot,
             refusal: Refusal::Unit,
@@ -106,34 +107,23 @@ fn gather(slot: u8, sequence: u8, unit: u8, held: u16, header: Header, body: u8)
     }
 }
 
-fn follow_in(slot: u8, state: SlotState, header: Header, body: u8) -> Plan
-    ensures { λ r. ⌜ planned r ≡ follow slot state header body ⌝ }
+fn unit_right(end: bool, unit: u8, body: u8) -> bool
+    ensures { λ r. ⌜ r ≡ unitRight end unit body ⌝ }
 {
-    match state {
-        SlotState::Free => Plan::Refuse {
-            refusal: Refusal::NoStart,
-        },
-        SlotState::Gathering {
-            key: _,
-            sequence,
-            unit,
-            held,
-        } => { gather(slot, sequence, unit, held, header, body) }
-    }
+    if end { body <= unit } else { body == unit }
 }
 
-fn on_follow(receiver: Receiver, header: Header, body: u8) -> Plan
-    ensures { λ r. ⌜ planned r ≡ onFollow (receiver .slots) header body ⌝ }
+fn state_after(header: Header, unit: u8, held: u16) -> SlotState
+    ensures { λ r. ⌜ r ≡ after header unit held ⌝ }
 {
-    let slot = slots::slot_of(receiver, header.key);
-    follow_in(slot, slots::state_at(receiver, slot as usize), header, body)
-}
-
-pub fn rule(receiver: Receiver, header: Header, body: u8) -> Plan
-    ensures { λ r. ⌜ planned r ≡ ruled (receiver .slots) header body ⌝ }
-{
-    if header.start {
-        return on_start(receiver, header, body);
+    if header.end {
+        return SlotState::Free;
     }
-    on_follow(receiver, header, body)
+    let key = header.key;
+    SlotState::Gathering {
+        key: key,
+        sequence: header.sequence,
+        unit: unit,
+        held: held,
+    }
 }

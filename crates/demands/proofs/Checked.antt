@@ -11,9 +11,8 @@ use Rattle.mmbi.specs.Interface.{stateOf}
 use Rattle.ring.specs.Numbers.{filledOf, roomOf}
 use Rattle.slots.specs.Slots.{firstOf, slotOf, lowestFree}
 use Rattle.slots.specs.State.{multiple, rightNumbers, rightSlot, clash, rightState}
-use Rattle.decision.specs.Checks.{setupRefusal, packetRefusal, sourceRefusal}
 use Rattle.decision.specs.Rules.{after, onStart, gathered, onFollow, ruled}
-use Rattle.decision.specs.Decision.{fromSource, fromPacket, decided}
+use Rattle.decision.specs.Decision.{decided}
 use Rattle.receiver.specs.Step.{done, stepOf}
 use Rattle.messages.specs.Run.{run}
 use Rattle.rack.specs.declared.answer.Beside.the-variants.{Source}
@@ -25,7 +24,7 @@ use Rattle.demands.proofs.Arrivals.{smbus-found}
 
 -- the good frame's packet, given to the message rules
 pub literal-done : stepOf 64 card empty literalPacket .said ≡ done 0 1 false
-unfolding stepOf decided fromPacket fromSource setupRefusal packetRefusal sourceRefusal ruled onStart onFollow gathered
+unfolding stepOf decided ruled onStart onFollow gathered
     after slotOf lowestFree firstOf headerOf keyOf sameKey rightState rightSlot rightNumbers multiple clash laid
 literal-done = refl
 

@@ -16,9 +16,8 @@ use Rattle.slots.specs.declared.state.SlotState.the-variants.{Free, Gathering}
 use Rattle.slots.specs.Slots.{slotAt, isFree, firstOf, slotOf, lowestFree}
 use Rattle.slots.specs.State.{multiple, rightNumbers, rightSlot, clash, rightState}
 use Rattle.slots.specs.Changes.{fresh, freedOf}
-use Rattle.decision.specs.Checks.{setupRefusal, packetRefusal, sourceRefusal}
 use Rattle.decision.specs.Rules.{after, onStart, gathered, onFollow, ruled}
-use Rattle.decision.specs.Decision.{fromSource, fromPacket, decided}
+use Rattle.decision.specs.Decision.{decided}
 use Rattle.receiver.specs.Step.{refused, held, stepOf}
 use Rattle.messages.specs.Run.{give, free}
 use Rattle.messages.specs.Message.{Item, packet, between, Starts, Middles, OneMessage, slotFor}
@@ -68,7 +67,7 @@ pub record Steps : Type 0 where
   pub train : OneMessage 64 card empty (packetWith 0xBD 64 1) middles (packetWith 0x5D 2 3)
 
 pub steps : Steps
-unfolding stepOf decided fromPacket fromSource setupRefusal packetRefusal sourceRefusal ruled onStart onFollow gathered
+unfolding stepOf decided ruled onStart onFollow gathered
     after slotOf lowestFree firstOf headerOf keyOf sameKey rightState rightSlot rightNumbers multiple clash laid freedOf
     slotFor Middles
 steps =
@@ -80,7 +79,7 @@ steps =
       held-two = refl;
       not-ours = refl;
       not-next = refl;
-      one-packet = record { checked = refl; source = refl; start = refl };
+      one-packet = record { checked = (refl, (refl, (refl, (refl, tt)))); start = refl };
       room = refl;
       right = refl;
       no-slot = refl;
@@ -89,14 +88,13 @@ steps =
             state = refl;
             memory = refl;
             room = lit< tt;
-            starts = record { checked = refl; source = refl; start = refl };
+            starts = record { checked = (refl, (refl, (refl, (refl, tt)))); start = refl };
             more = refl;
             middles = (
               inl refl,
               (
                 record {
-                  checked = refl;
-                  source = refl;
+                  checked = (refl, (refl, (refl, (refl, tt))));
                   not-start = refl;
                   key = refl;
                   sequence = refl;
@@ -109,8 +107,7 @@ steps =
             );
             follows =
                 record {
-                  checked = refl;
-                  source = refl;
+                  checked = (refl, (refl, (refl, (refl, tt))));
                   not-start = refl;
                   key = refl;
                   sequence = refl;

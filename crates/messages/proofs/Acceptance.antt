@@ -22,7 +22,7 @@ use Rattle.slots.specs.Changes.{withState}
 use Rattle.slots.proofs.States.{right-of, slot-same}
 use Rattle.slots.proofs.Found.{slot-of-is, lowest-found}
 use Rattle.octets.specs.Bytes.{laid}
-use Rattle.decision.proofs.Picked.{pick-elim}
+use Rattle.octets.proofs.Choice.{pick-elim}
 use Rattle.receiver.specs.Step.{Said, done, Left, stepOf}
 use Rattle.receiver.proofs.Laws.{one-slot}
 use Rattle.messages.specs.Run.{Call, give, free, rules, message, messagesOf, Ran, called, joined, run}

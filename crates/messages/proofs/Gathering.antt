@@ -8,12 +8,15 @@ use mathlib.Core.Logic.{⊎-elim}
 use Prim.Native.Nat.{ℕ, _+_, _*_, _≤_, _<_}
 use native.Mathlib.Nat.{zero-add}
 use native.Mathlib.Omega.{arith}
-use borrow.Author.Tests.{eq-eqb, lt-ltb, le-ltb}
+use borrow.Author.Tests.{eq-eqb, lt-ltb, le-leb}
 use lib.Dec.{ltb}
 use lib.ListN.{length, length-append, length-drop}
 use Rattle.octets.specs.Choice.{pick}
 use Rattle.octets.specs.Bytes.{laid}
+use Rattle.octets.specs.Checks.{Hold}
 use Rattle.octets.proofs.Choice.{within-bounds}
+use Rattle.octets.proofs.Checks.{none-failing}
+use Rattle.octets.proofs.Parts.{part-grown}
 use Rattle.mctp.specs.declared.packet.Key.{Key}
 use Rattle.mctp.specs.Packet.{bodyOf, endOf, sequenceOf}
 use Rattle.mctp.specs.Key.{keyOf, headerOf, sameKey}
@@ -27,14 +30,12 @@ use Rattle.slots.specs.Changes.{withState}
 use Rattle.slots.proofs.States.{right-of, most-bounds, slot-same, slot-other}
 use Rattle.slots.proofs.Found.{holds-key, slot-of-is}
 use Rattle.slots.proofs.Numbers.{gathering-of}
-use Rattle.decision.specs.Checks.{setupRefusal, packetRefusal, sourceRefusal}
+use Rattle.decision.specs.Checks.{packetOrder, sourceOrder}
 use Rattle.decision.specs.Rules.{put, refuse, after, onStart, gathered, follow, onFollow, ruled}
-use Rattle.decision.specs.Decision.{fromSource, fromPacket, decided}
-use Rattle.decision.proofs.Checks.{packet-good, unless-good}
+use Rattle.decision.specs.Decision.{checkOrder, decided}
 use Rattle.decision.proofs.Cases.{ruled-start, ruled-follow}
 use Rattle.decision.proofs.Decided.{every-decision}
 use Rattle.receiver.specs.Step.{refused, held, done, Left, carriedOut, stepOf}
-use Rattle.octets.proofs.Parts.{part-grown}
 use Rattle.receiver.proofs.Laws.{step-right, one-slot, refused-unchanged}
 use Rattle.messages.specs.Run.{Call, give, free, message, called}
 use Rattle.messages.specs.Message.{Starts, Follows, Harmless, slotFor}
@@ -48,18 +49,13 @@ pub record Gathers (most : ℕ) (r : Receiver) (m : List ℕ) (k : Key) (i last 
   pub state : slotAt (r .slots) i ≡ Gathering k last unit (length sofar)
   pub bytes : message m i (length sofar) ≡ sofar
 
--- neither 1 nor 2
-setup-passes : (most : ℕ) (r : Receiver) (m : List ℕ) → rightState most r ≡ true → length m ≡ 4096
-    → setupRefusal most r (length m) ≡ 0
-unfolding setupRefusal
-setup-passes most r m e n = rw (e, eq-eqb (length m) 4096 n)
-
 -- a packet that no check refuses is decided on by the rules
-decided-rules : (most : ℕ) (r : Receiver) (size : ℕ) (p : List ℕ) → setupRefusal most r size ≡ 0
-    → packetRefusal most (r .setup) p ≡ 0 → sourceRefusal p ≡ 0
+decided-rules : (most : ℕ) (r : Receiver) (size : ℕ) (p : List ℕ) → rightState most r ≡ true → size ≡ 4096
+    → Hold (packetOrder most (r .setup) p ++ sourceOrder p)
     → decided most r size p ≡ ruled (r .slots) (headerOf p) (length (bodyOf p))
-unfolding decided fromPacket fromSource
-decided-rules most r size p a b c = unless-good _ _ a ∙ unless-good _ _ b ∙ unless-good _ _ c
+unfolding decided
+decided-rules most r size p right whole checked =
+    none-failing (checkOrder most r size p) _ (right, (eq-eqb size 4096 whole, checked))
 
 -- the slot after a packet without end, and with it
 after-middle : (p : List ℕ) (unit n : ℕ) → endOf p ≡ false
@@ -82,7 +78,7 @@ module _ (most : ℕ) (r : Receiver) (m : List ℕ) (k : Key) (i last unit : ℕ
   gathered-put : gathered i last unit (length sofar) (headerOf p) (length (bodyOf p))
       ≡ put i (length sofar) false (after (headerOf p) unit total)
   unfolding gathered headerOf
-  gathered-put = rw (eq-eqb _ _ (F .sequence), F .size, le-ltb _ _ (F .room))
+  gathered-put = rw (eq-eqb _ _ (F .sequence), F .size, le-leb _ _ (F .room))
 
   its-slot : slotOf (r .slots) (headerOf p .key) ≡ i
   unfolding headerOf
@@ -99,7 +95,7 @@ module _ (most : ℕ) (r : Receiver) (m : List ℕ) (k : Key) (i last unit : ℕ
       ≡ put i (length sofar) false (after (headerOf p) unit total)
   unfolding onFollow
   appended =
-      decided-rules most r (length m) p (setup-passes most r m (G .right) (G .memory)) (F .checked) (F .source)
+      decided-rules most r (length m) p (G .right) (G .memory) (F .checked)
       ∙ ruled-follow (r .slots) (headerOf p) (length (bodyOf p)) starts-not
       ∙ ap (λ (j : ℕ). follow j (slotAt (r .slots) j) (headerOf p) (length (bodyOf p))) its-slot
       ∙ ap (λ (s : SlotState). follow i s (headerOf p) (length (bodyOf p))) (G .state)
@@ -185,12 +181,14 @@ module _ (most : ℕ) (r : Receiver) (m : List ℕ) (k : Key) (i last unit : ℕ
       every-decision most r (length m) p
       (λ d. (slotAt (carriedOut r m p d .receiver .slots) i ≡ slotAt (r .slots) i)
       × (message (carriedOut r m p d .memory) i (length sofar) ≡ message m i (length sofar)))
-      (λ n low high. (refl, refl))
-      (λ e j n h low high c. (slot-other (r .slots) j i Free (apart j c), refl))
-      (λ e s j at again then f. (
-        slot-other (r .slots) j i then (taken j (f .taken)),
-        slot-apart most m i j at (bodyOf p) (length sofar) (λ x. taken j (f .taken) (sym x)) (f .place) held-fits,
-      ))
+      (record {
+        refuses = λ n low high. (refl, refl);
+        releases = λ e j n h low high c. (slot-other (r .slots) j i Free (apart j c), refl);
+        puts = λ e s j at again then f. (
+          slot-other (r .slots) j i then (taken j (f .taken)),
+          slot-apart most m i j at (bodyOf p) (length sofar) (λ x. taken j (f .taken) (sym x)) (f .place) held-fits,
+        );
+      })
 
   -- a packet that is refused with anything but 20 to 22
   early-refused : (p : List ℕ) (n : ℕ) → n ≤ 19 → stepOf most r m p .said ≡ refused n
@@ -243,7 +241,7 @@ module _ (most : ℕ) (r : Receiver) (m p : List ℕ) (right : rightState most r
       (after (headerOf p) n n)
   unfolding onStart slotFor headerOf
   begun =
-      decided-rules most r (length m) p (setup-passes most r m right size) (S .checked) (S .source)
+      decided-rules most r (length m) p right size (S .checked)
       ∙ ruled-start (r .slots) (headerOf p) n (S .start)
       ∙ start-put again (slotOf (r .slots) (keyOf p)) (lowestFree (r .slots) 0 4)
       (after (headerOf p) n n) room
@@ -252,7 +250,7 @@ module _ (most : ℕ) (r : Receiver) (m p : List ℕ) (right : rightState most r
   body-fits =
       omega (
         arith,
-        within-bounds 5 (4 + most) (length p) (packet-good most (r .setup) p (S .checked) .size),
+        within-bounds 5 (4 + most) (length p) (S .checked .0),
         length-drop 4 p,
         most-bounds most r right,
       )

@@ -23,7 +23,7 @@ use Rattle.slots.specs.State.{rightState}
 use Rattle.slots.specs.Changes.{Kept, withState, freedOf}
 use Rattle.slots.proofs.States.{slot-other}
 use Rattle.slots.proofs.Kept.{freed-right}
-use Rattle.decision.proofs.Picked.{pick-elim}
+use Rattle.octets.proofs.Choice.{pick-elim}
 use Rattle.decision.proofs.Decided.{every-decision}
 use Rattle.receiver.specs.Step.{answerOf, carriedOut, stepOf}
 use Rattle.receiver.specs.Effects.{OneSlot}
@@ -151,10 +151,12 @@ module _ (most : ℕ) where
   step-stays r m p i n high e =
       every-decision most r (length m) p
       (λ d. intoSlot i (carriedOut r m p d .said) ≡ false → message (carriedOut r m p d .memory) i n ≡ message m i n)
-      (λ k low up s. refl)
-      (λ x j k h low up c s. refl)
-      (λ x y j at again then f s. slot-apart m i j at (bodyOf p) n
-      (eqb-false j i (sym (into-put then i j (at + length (bodyOf p)) again) ∙ s)) (f .place) high)
+      (record {
+        refuses = λ k low up s. refl;
+        releases = λ x j k h low up c s. refl;
+        puts = λ x y j at again then f s. slot-apart m i j at (bodyOf p) n
+            (eqb-false j i (sym (into-put then i j (at + length (bodyOf p)) again) ∙ s)) (f .place) high;
+      })
       e
 
   -- "Its bytes stay until a later call writes there."

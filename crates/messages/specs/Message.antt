@@ -8,6 +8,7 @@ use mathlib.Core.Logic.{_⊎_}
 use lib.Dec.{ltb}
 use lib.ListN.{length}
 use Rattle.octets.specs.Choice.{pick}
+use Rattle.octets.specs.Checks.{Hold}
 use Rattle.mctp.specs.declared.packet.Key.{Key}
 use Rattle.mctp.specs.Packet.{bodyOf, startOf, endOf, sequenceOf}
 use Rattle.mctp.specs.Key.{keyOf, sameKey}
@@ -17,8 +18,8 @@ use Rattle.slots.specs.declared.state.Receiver.{Receiver}
 use Rattle.slots.specs.declared.state.SlotState.the-variants.{Free}
 use Rattle.slots.specs.Slots.{slotAt, slotOf, lowestFree}
 use Rattle.slots.specs.State.{rightState}
-use Rattle.decision.specs.Checks.{packetRefusal, sourceRefusal}
-use Rattle.decision.specs.Rules.{wrongUnit}
+use Rattle.decision.specs.Checks.{packetOrder, sourceOrder}
+use Rattle.decision.specs.Rules.{unitRight}
 use Rattle.receiver.specs.Step.{refused, held, done, stepOf}
 use Rattle.messages.specs.Run.{Call, give, free, Reply, rules, Ran, called}
 
@@ -67,19 +68,17 @@ slotFor slots k = pick (ltb (slotOf slots k) 4) (slotOf slots k) (lowestFree slo
 
 -- a packet with start that no check refuses
 pub record Starts (most : ℕ) (s : Setup) (p : List ℕ) : Type 0 where
-  pub checked : packetRefusal most s p ≡ 0
-  pub source : sourceRefusal p ≡ 0
+  pub checked : Hold (packetOrder most s p ++ sourceOrder p)
   pub start : startOf p ≡ true
 
 -- a packet without start that no check refuses, of this key, with the next sequence ("rising modulo 4"), a middle of
 -- the unit's size or an end no longer, with which no more than 1,024 bytes are held
 pub record Follows (most : ℕ) (s : Setup) (k : Key) (last unit n : ℕ) (p : List ℕ) : Type 0 where
-  pub checked : packetRefusal most s p ≡ 0
-  pub source : sourceRefusal p ≡ 0
+  pub checked : Hold (packetOrder most s p ++ sourceOrder p)
   pub not-start : startOf p ≡ false
   pub key : keyOf p ≡ k
   pub sequence : sequenceOf p ≡ (last + 1) % 4
-  pub size : wrongUnit (endOf p) unit (length (bodyOf p)) ≡ false
+  pub size : unitRight (endOf p) unit (length (bodyOf p)) ≡ true
   pub room : n + length (bodyOf p) ≤ 1024
 
 -- what may stand between the packets of a message of this key in this slot: a packet of another key, whatever comes of

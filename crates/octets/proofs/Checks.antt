@@ -1,5 +1,5 @@
 -- Check orders: where the first failing check stands gives the answer, and a good answer says that every test held.
--- Three laws serve every order; `tests` lets `omega` read and prove the facts that they ask for.
+-- Four laws serve every order; `tests` lets `omega` read and prove the facts that they ask for.
 -- Assumes nothing.
 use mathlib.Core.Path.{_≡_, refl, sym, _∙_}
 use mathlib.Core.Bool.{Bool, true, false, not, _&&_, true≢false}
@@ -13,6 +13,7 @@ use borrow.Author.Tests.{lt-ltb, le-ltb, le-leb, lt-leb, eq-eqb, ne-eqb}
 use lib.Dec.{leb}
 use Rattle.octets.specs.Choice.{pick, within}
 use Rattle.octets.specs.Checks.{Check, _unless_, firstFailing}
+pub use Rattle.octets.specs.Checks.{Hold}
 use Rattle.octets.proofs.Choice.{both, within-bounds, within-holds, within-below, within-above}
 
 -- the answer of the check at place i; past the last check, `last`
@@ -21,10 +22,10 @@ answerAt [] last i = last
 answerAt ((a unless t) ∷ order) last zero = a
 answerAt ((a unless t) ∷ order) last (suc i) = answerAt order last i
 
--- every test holds
-abbrev pub Hold : {A : Type 0} → List (Check A) → Type 0
-Hold [] = Unit
-Hold ((a unless t) ∷ order) = (t ≡ true) × Hold order
+-- every answer passes
+abbrev pub Each : {A : Type 0} → (A → Type 0) → List (Check A) → Type 0
+Each P [] = Unit
+Each P ((a unless t) ∷ order) = P a × Each P order
 
 -- the tests before place i hold, and the one there fails
 abbrev pub FailsAt : {A : Type 0} → List (Check A) → ℕ → Type 0
@@ -61,6 +62,13 @@ all-hold good ((a unless false) ∷ order) last away e =
     gone : (t : Bool) → t ≡ true → not t ≡ false
     gone true h = refl
     gone false h = absurd (true≢false (sym h))
+
+-- what holds of each check's answer, and of the last where every test holds, holds of the order's answer
+pub every-answer : {A : Type 0} (P : A → Type 0) (order : List (Check A)) (last : A)
+    → Each P order → (Hold order → P last) → P (firstFailing order last)
+every-answer P [] last e f = f tt
+every-answer P ((a unless true) ∷ order) last e f = every-answer P order last (e .1) (λ h. f (refl, h))
+every-answer P ((a unless false) ∷ order) last e f = e .0
 
 -- a number within two bounds, as one sum that `omega` reads: how far it lies below, and how far above
 pub within-true : (low high n : ℕ) → within low high n ≡ true → (low - n) + (n - high) ≡ 0

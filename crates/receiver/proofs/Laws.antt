@@ -24,7 +24,7 @@ use Rattle.decision.proofs.Decided.{every-decision}
 use Rattle.decision.proofs.decide.Reads as decide
 use Rattle.receiver.specs.Effects.{Unchanged, SlotFreed, OneSlot}
 use Rattle.receiver.specs.Step.{refused, answerOf, carriedOut, stepOf}
-use Rattle.receiver.proofs.Laid.{laid-before, laid-behind}
+use Rattle.octets.proofs.Parts.{laid-before, laid-behind}
 
 -- giving a packet is the decision carried out
 pub step-is-decision : (most : ℕ) (r : Receiver) (m p : List ℕ)
@@ -45,10 +45,12 @@ pub step-right : (most : ℕ) (r : Receiver) (m p : List ℕ) → rightState mos
 unfolding stepOf
 step-right most r m p e =
     every-decision most r (length m) p (λ d. rightState most (carriedOut r m p d .receiver) ≡ true)
-    (λ n low high. e)
-    (λ e i n h low high k. free-right most r i h e)
-    (λ e s i at again then f. right-holds most (withState r i then)
-    (with-right most r (right-of most r e) i then (f .slot) (f .right) (f .alone)))
+    (record {
+      refuses = λ n low high. e;
+      releases = λ e i n h low high k. free-right most r i h e;
+      puts = λ e s i at again then f. right-holds most (withState r i then)
+          (with-right most r (right-of most r e) i then (f .slot) (f .right) (f .alone));
+    })
 
 -- a body that is put is not refused
 put-answers : (then : SlotState) (i b : ℕ) (again : Bool) (n : ℕ) → answerOf then i b again ≡ refused n → ⊥
@@ -66,12 +68,15 @@ pub refused-unchanged : (most : ℕ) (r : Receiver) (m p : List ℕ) (n : ℕ) �
 unfolding stepOf
 refused-unchanged most r m p n e n20 n21 n22 =
     every-decision most r (length m) p
-    (λ d. carriedOut r m p d .said ≡ refused n → Unchanged r m (carriedOut r m p d .receiver) (carriedOut r m p d .memory))
-    (λ k low high s. record { setup = refl; slots = refl; memory = refl })
-    (λ x i k h low high c s.
-    let same : k ≡ n = cc in
-    absurd (none k same low high))
-    (λ x y i at again then f s. absurd (put-answers then i (at + length (bodyOf p)) again n s))
+    (λ d. carriedOut r m p d .said ≡ refused n
+    → Unchanged r m (carriedOut r m p d .receiver) (carriedOut r m p d .memory))
+    (record {
+      refuses = λ k low high s. record { setup = refl; slots = refl; memory = refl };
+      releases = λ x i k h low high c s.
+          let same : k ≡ n = cc in
+          absurd (none k same low high);
+      puts = λ x y i at again then f s. absurd (put-answers then i (at + length (bodyOf p)) again n s);
+    })
     e
   where
     none : (k : ℕ) → k ≡ n → 20 ≤ k → k ≤ 22 → ⊥
@@ -85,18 +90,20 @@ refused-freed most r m p n e twenty =
     every-decision most r (length m) p
     (λ d. carriedOut r m p d .said ≡ refused n
     → SlotFreed (keyOf p) r m (carriedOut r m p d .receiver) (carriedOut r m p d .memory))
-    (λ k low high s.
-    let same : k ≡ n = cc in
-    absurd (none k same high))
-    (λ x i k h low high c s. record {
-      slot = i;
-      one-of-four = h;
-      has-the-key = c;
-      setup = refl;
-      slots = refl;
-      memory = refl;
+    (record {
+      refuses = λ k low high s.
+          let same : k ≡ n = cc in
+          absurd (none k same high);
+      releases = λ x i k h low high c s. record {
+        slot = i;
+        one-of-four = h;
+        has-the-key = c;
+        setup = refl;
+        slots = refl;
+        memory = refl;
+      };
+      puts = λ x y i at again then f s. absurd (put-answers then i (at + length (bodyOf p)) again n s);
     })
-    (λ x y i at again then f s. absurd (put-answers then i (at + length (bodyOf p)) again n s))
     e
   where
     none : (k : ℕ) → k ≡ n → k ≤ 19 → ⊥
@@ -108,32 +115,32 @@ pub one-slot : (most : ℕ) (r : Receiver) (m p : List ℕ)
 unfolding stepOf
 one-slot most r m p =
     every-decision most r (length m) p (λ d. OneSlot r m (carriedOut r m p d .receiver) (carriedOut r m p d .memory))
-    (λ n low high. record {
-      slot = 0;
-      one-of-four = lit< tt;
-      setup = refl;
-      others = λ j d. refl;
-      size = refl;
-      bytes-before = λ k h. refl;
-      bytes-behind = λ k h. refl;
-    })
-    (λ x i n h low high c.
-    record {
-      slot = i;
-      one-of-four = h;
-      setup = refl;
-      others = λ j d. slot-other (r .slots) i j Free d;
-      size = refl;
-      bytes-before = λ k b. refl;
-      bytes-behind = λ k b. refl;
-    })
-    (λ x y i at again then f.
-    record {
-      slot = i;
-      one-of-four = f .slot;
-      setup = refl;
-      others = λ j d. slot-other (r .slots) i j then d;
-      size = laid-length m (1024 * i + at) (bodyOf p);
-      bytes-before = λ k b. laid-before m (1024 * i + at) (bodyOf p) k (omega arith);
-      bytes-behind = λ k b. laid-behind m (1024 * i + at) (bodyOf p) k (omega (arith, f .place));
+    (record {
+      refuses = λ n low high. record {
+        slot = 0;
+        one-of-four = lit< tt;
+        setup = refl;
+        others = λ j d. refl;
+        size = refl;
+        bytes-before = λ k h. refl;
+        bytes-behind = λ k h. refl;
+      };
+      releases = λ x i n h low high c. record {
+        slot = i;
+        one-of-four = h;
+        setup = refl;
+        others = λ j d. slot-other (r .slots) i j Free d;
+        size = refl;
+        bytes-before = λ k b. refl;
+        bytes-behind = λ k b. refl;
+      };
+      puts = λ x y i at again then f. record {
+        slot = i;
+        one-of-four = f .slot;
+        setup = refl;
+        others = λ j d. slot-other (r .slots) i j then d;
+        size = laid-length m (1024 * i + at) (bodyOf p);
+        bytes-before = λ k b. laid-before m (1024 * i + at) (bodyOf p) k (omega arith);
+        bytes-behind = λ k b. laid-behind m (1024 * i + at) (bodyOf p) k (omega (arith, f .place));
+      };
     })

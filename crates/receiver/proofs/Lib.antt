@@ -1,3 +1,2 @@
-pub mod Laid
 pub mod Laws
 pub mod Determined

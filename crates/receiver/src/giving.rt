@@ -4,10 +4,6 @@ use mctp::Refusal;
 use slots::Receiver;
 use slots::SlotState;
 ghost use mathlib.Core.Path.{_≡_};
-ghost use Prim.Native.Nat.{_<_, _^_};
-ghost use lib.ListN.{length};
-ghost use Rattle.octets.specs.Bytes.{laid};
-ghost use Rattle.mctp.specs.Packet.{bodyOf};
 ghost use Rattle.decision.specs.Rules.{planned};
 ghost use Rattle.receiver.specs.Step.{says, answerOf, left, carriedOut, stepOf};
 
@@ -32,18 +28,47 @@ pub struct Given {
     pub receiver: Receiver,
 }
 
-fn body_size(packet: &[u8]) -> usize
-    ensures { λ r. ⌜ (r ≡ length (bodyOf (now (packet .entry)))) × (r < 2 ^ 63) ⌝ }
+pub fn give(receiver: Receiver, memory: &mut [u8], packet: &[u8]) -> Given
+    ensures { λ r. ⌜ left r (now (memory .exit)) ≡ stepOf 64 receiver (now (memory .entry)) (now (packet .entry)) ⌝ }
 {
-    let size = packet.len();
-    if size < 4 { 0 } else { size - 4 }
+    give_within(mctp::LARGEST_BODY, receiver, memory, packet)
 }
 
-fn lay_body(memory: &mut [u8], at: usize, packet: &[u8])
-    ensures { λ _. ⌜ now (memory .exit) ≡ laid (now (memory .entry)) at (bodyOf (now (packet .entry))) ⌝ }
+fn give_within(most: usize, receiver: Receiver, memory: &mut [u8], packet: &[u8]) -> Given
+    ensures { λ r. ⌜ left r (now (memory .exit)) ≡ stepOf most receiver (now (memory .entry)) (now (packet .entry)) ⌝ }
 {
-    if 4 <= packet.len() {
-        octets::lay(memory, at, &packet[4..]);
+    let plan = decision::decide_within(most, receiver, memory.len(), packet);
+    carry_out(receiver, memory, packet, plan)
+}
+
+fn carry_out(receiver: Receiver, memory: &mut [u8], packet: &[u8], plan: Plan) -> Given
+    ensures { λ r. ⌜ left r (now (memory .exit)) ≡ carriedOut receiver (now (memory .entry)) (now (packet .entry))
+        (planned plan) ⌝ }
+{
+    match plan {
+        Plan::Refuse(refusal) => Given {
+            answer: Answer::Refused { refusal: refusal },
+            receiver: receiver,
+        },
+        Plan::Release { slot, refusal } => Given {
+            answer: Answer::Refused { refusal: refusal },
+            receiver: slots::with_state(receiver, slot as usize, SlotState::Free),
+        },
+        Plan::Put {
+            slot,
+            at,
+            again,
+            then,
+        } => {
+            let place = slot as usize;
+            let before = at as usize;
+            let body = octets::part(packet, 4, packet.len());
+            octets::lay(memory, 1024 * place + before, body);
+            Given {
+                answer: answer_of(then, slot, before + body.len(), again),
+                receiver: slots::with_state(receiver, place, then),
+            }
+        }
     }
 }
 
@@ -67,47 +92,4 @@ fn answer_of(then: SlotState, slot: u8, bytes: usize, again: bool) -> Answer
             again: again,
         },
     }
-}
-
-fn carry_out(receiver: Receiver, memory: &mut [u8], packet: &[u8], plan: Plan) -> Given
-    ensures { λ r. ⌜ left r (now (memory .exit)) ≡ carriedOut receiver (now (memory .entry)) (now (packet .entry))
-        (planned plan) ⌝ }
-{
-    match plan {
-        Plan::Refuse { refusal } => Given {
-            answer: Answer::Refused { refusal: refusal },
-            receiver: receiver,
-        },
-        Plan::Release { slot, refusal } => Given {
-            answer: Answer::Refused { refusal: refusal },
-            receiver: slots::with_state(receiver, slot as usize, SlotState::Free),
-        },
-        Plan::Put {
-            slot,
-            at,
-            again,
-            then,
-        } => {
-            let place = slot as usize;
-            let before = at as usize;
-            lay_body(memory, 1024 * place + before, packet);
-            Given {
-                answer: answer_of(then, slot, before + body_size(packet), again),
-                receiver: slots::with_state(receiver, place, then),
-            }
-        }
-    }
-}
-
-fn give_within(most: usize, receiver: Receiver, memory: &mut [u8], packet: &[u8]) -> Given
-    ensures { λ r. ⌜ left r (now (memory .exit)) ≡ stepOf most receiver (now (memory .entry)) (now (packet .entry)) ⌝ }
-{
-    let plan = decision::decide_within(most, receiver, memory.len(), packet);
-    carry_out(receiver, memory, packet, plan)
-}
-
-pub fn give(receiver: Receiver, memory: &mut [u8], packet: &[u8]) -> Given
-    ensures { λ r. ⌜ left r (now (memory .exit)) ≡ stepOf 64 receiver (now (memory .entry)) (now (packet .entry)) ⌝ }
-{
-    give_within(mctp::LARGEST_BODY, receiver, memory, packet)
 }

@@ -13,9 +13,8 @@ use Rattle.slots.specs.declared.state.SlotState.the-variants.{Free}
 use Rattle.slots.specs.Slots as slots
 use Rattle.slots.specs.State as state
 use Rattle.slots.specs.Changes.{fresh}
-use Rattle.decision.specs.Checks as checks
 use Rattle.decision.specs.Rules as rules
-use Rattle.decision.specs.Decision.{fromSource, fromPacket, decided}
+use Rattle.decision.specs.Decision.{decided}
 use Rattle.receiver.specs.Step.{stepOf}
 use Rattle.rack.specs.declared.answer.Beside.the-variants.{Source}
 use Rattle.rack.specs.Arrivals.{packet, none, refused, smbusBrings}
@@ -42,7 +41,7 @@ short = refl
 
 done : decided 64 (fresh (record { own = record { 0 = 9 } })) 4096 (0x01 ∷ 0x09 ∷ 0x0A ∷ 0xC8 ∷ 0x00 ∷ [])
     ≡ rules.put 0 0 false Free
-unfolding decided fromPacket fromSource checks.setupRefusal checks.packetRefusal checks.sourceRefusal rules.ruled
+unfolding decided rules.ruled
     rules.onStart rules.after key.keyOf key.headerOf key.sameKey slots.firstOf slots.slotOf slots.lowestFree
     state.rightState state.rightSlot state.clash
 done = refl

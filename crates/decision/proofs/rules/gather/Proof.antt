@@ -1,7 +1,7 @@
 -- `decision::rules::gather` meets its contract.
 -- Assumes nothing.
 use mathlib.Core.Path.{sym, _∙_}
-use borrow.Author.Tests.{lt-ltb, le-ltb, eq-eqb, ne-eqb}
+use borrow.Author.Tests.{not-true, not-false, le-leb, lt-leb, eq-eqb, ne-eqb}
 use Rattle.decision.specs.Rules.{gathered}
 use borrow.Author.Needs.{needs}
 use Rattle.decision.proofs.rules.gather.Statement.{statement}
@@ -13,16 +13,16 @@ returns c = rw (ne-eqb _ _ (c .if1 .taken))
 
 returns-2 : tie.Need-returns-2
 unfolding gathered
-returns-2 c = rw (eq-eqb _ _ (c .before .before .if1 .left), sym (c .before .wrong-unit .ensures) ∙ c .if2 .taken)
+returns-2 c =
+    rw (eq-eqb _ _ (c .before .before .if1 .left), sym (c .before .unit-right .ensures) ∙ not-true _ (c .if2 .taken))
 
 returns-3 : tie.Need-returns-3
 unfolding gathered
 returns-3 c =
     rw (
       eq-eqb _ _ (c .before .before .before .if1 .left),
-      sym (c .before .before .wrong-unit .ensures)
-          ∙ c .before .if2 .left,
-      lt-ltb _ _ (c .if3 .taken),
+      sym (c .before .before .unit-right .ensures) ∙ not-false _ (c .before .if2 .left),
+      lt-leb _ _ (c .if3 .taken),
     )
 
 returns-4 : tie.Need-returns-4
@@ -30,9 +30,8 @@ unfolding gathered
 returns-4 c =
     rw (
       eq-eqb _ _ (c .before .before .before .before .if1 .left),
-      sym (c .before .before .before .wrong-unit .ensures)
-          ∙ c .before .before .if2 .left,
-      le-ltb _ _ (c .before .if3 .left),
+      sym (c .before .before .before .unit-right .ensures) ∙ not-false _ (c .before .before .if2 .left),
+      le-leb _ _ (c .before .if3 .left),
       c .state-after .ensures,
     )
 

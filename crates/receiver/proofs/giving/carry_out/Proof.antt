@@ -1,5 +1,11 @@
 -- `receiver::giving::carry_out` meets its contract, plan by plan.
 -- Assumes nothing.
+use mathlib.Core.Path.{_≡_, _∙_}
+use native.Mathlib.Omega.{arith}
+use denote.Ref.{now}
+use lib.ListN.{length, drop, length-drop}
+use lib.Seq.{take-all}
+use Rattle.mctp.specs.Packet.{bodyOf}
 use borrow.Author.Needs.{needs}
 use Rattle.receiver.proofs.giving.carry_out.Statement.{statement}
 use Rattle.receiver.proofs.giving.carry_out.Tie as tie
@@ -10,15 +16,23 @@ returns c = rw (c .before .plan .given .1)
 returns-2 : tie.Need-returns-2
 returns-2 c = rw (c .before .before .plan2 .given .1, c .with-state .ensures)
 
+-- the body is what stands behind the packet's first four bytes, all of it
+body : (c : tie.After-part) → let p = c .before .before .before .before .before .before .args .packet .now in
+    now (c .part .result) ≡ bodyOf p
+body c =
+    let p = c .before .before .before .before .before .before .args .packet .now in
+    c .part .ensures ∙ take-all (length p) (drop 4 p) (omega (arith, length-drop 4 p))
+
 returns-3 : tie.Need-returns-3
 returns-3 c =
-    let laid = c .before .before .before .before .before in
+    let laid = c .before .before .before .before in
+    let cut = laid .before .before in
     rw (
-      laid .before .before .before .plan3 .given .1,
+      cut .before .before .plan3 .given .1,
       c .with-state2 .ensures,
-      laid .lay-body .ensures,
       c .before .answer-of .ensures,
-      c .before .before .body-size .ensures .0,
+      laid .lay .ensures,
+      body cut,
     )
 
 pub carry-out-spec : {M : Type 1} → statement M
@@ -32,9 +46,9 @@ carry-out-spec =
     (λ c. search needs)
     (λ c. search needs)
     (λ c. search needs)
-    (λ c. search needs)
-    (λ c. search needs)
     (λ c κs. search needs)
+    (λ c. search needs)
+    (λ c. search needs)
     (λ c κs. search needs)
     (λ c. search needs)
     (λ c κs. search needs)
