@@ -21,10 +21,10 @@ use Rattle.smbus.proofs.Answers.{good-packet, good-source}
 use Rattle.smbus.proofs.Layouts.{good-frame, frame-bytes}
 use Rattle.smbus.proofs.Readings.{good}
 use Rattle.smbus.proofs.RoundTrip as smbus-back
-use Rattle.pcc.specs.Region.{regionFor}
+use Rattle.pcc.specs.Layout.{regionFor}
 use Rattle.pcc.specs.Reading as pcc
 use Rattle.pcc.specs.Writing as regions
-use Rattle.pcc.proofs.Back as pcc-back
+use Rattle.pcc.proofs.RoundTrip as pcc-back
 use Rattle.pcc.proofs.Bytes.{every-bytes}
 use Rattle.mmbi.specs.Interface.{stateOf, mayRead}
 use Rattle.mmbi.specs.declared.interface.Flags.{Flags}

@@ -17,10 +17,10 @@ use Rattle.smbus.specs.Reading as smbus
 use Rattle.smbus.specs.Writing as frames
 use Rattle.smbus.proofs.Answers.{output-written, output-unwritten}
 use Rattle.smbus.proofs.WrongBits.{window-refused, odd-refused}
-use Rattle.pcc.specs.Region.{regionWith, regionOf, regionFor}
+use Rattle.pcc.specs.Layout.{regionWith, regionOf, regionFor}
 use Rattle.pcc.specs.Reading as pcc
 use Rattle.pcc.specs.Writing as regions
-use Rattle.pcc.proofs.Made.{good-front}
+use Rattle.pcc.proofs.Layouts.{good-front}
 use Rattle.pcc.proofs.Writings.{written-whole, written-refused}
 use Rattle.descriptor.specs.declared.configuration.Area.{Area}
 use Rattle.descriptor.specs.declared.configuration.Configuration.{Configuration}

@@ -20,10 +20,10 @@ use Rattle.smbus.proofs.Literal.{literalFrame, literalPacket, literal-good}
 use Rattle.smbus.proofs.OddChanges.{threeBits, three-bits, wrongPec, wrong-pec, wrong-pec-bytes}
 use Rattle.smbus.proofs.RoundTrip.{frame-number}
 use Rattle.smbus.proofs.Windows.{acrossBorder, across-border}
-use Rattle.pcc.specs.Region.{regionFor, regionOf, regionWith}
+use Rattle.pcc.specs.Layout.{regionFor, regionOf, regionWith}
 use Rattle.pcc.specs.Reading as pcc
 use Rattle.pcc.specs.Writing as regions
-use Rattle.pcc.proofs.Back.{every-number}
+use Rattle.pcc.proofs.RoundTrip.{every-number}
 use Rattle.mmbi.specs.declared.interface.Flags.{Flags}
 use Rattle.mmbi.specs.Interface.{flagsOf, normalRuntime, askedByHost, askedByController, stateOf, mayRead, mayWrite}
 use Rattle.descriptor.specs.declared.configuration.Area.the-variants.{B2h}

@@ -11,7 +11,7 @@ use lib.ListN.{getD, replicate}
 use Rattle.mctp.specs.Packet.{startOf}
 use Rattle.pec.proofs.Tests.{all-bytes}
 use Rattle.smbus.proofs.Literal.{literalFrame, literalPacket}
-use Rattle.pcc.specs.Region.{regionFor}
+use Rattle.pcc.specs.Layout.{regionFor}
 use Rattle.mmbi.specs.declared.interface.Flags.{Flags}
 use Rattle.mmbi.specs.Interface.{stateOf, mayRead}
 use Rattle.ring.specs.Packet.{wholeFor}

@@ -7,7 +7,7 @@ use lib.ListN.{length, replicate}
 use Rattle.octets.specs.Bytes.{Below}
 use Rattle.octets.specs.Words.{lowFirst, wordBytes}
 use Rattle.octets.proofs.Below.{below-append, below-word, below-zeros}
-use Rattle.pcc.specs.Region.{signatureOf, flagsOf, lengthOf, command, regionOf, regionFor}
+use Rattle.pcc.specs.Layout.{signatureOf, flagsOf, lengthOf, command, regionOf, regionFor}
 
 -- a word, and what stands behind it
 word-before : (w : ℕ) (s : List ℕ) → Below 256 s → Below 256 (wordBytes lowFirst w ++ s)

@@ -9,8 +9,7 @@ use Rattle.pcc.specs.declared.answer.Carried.{Carried}
 use Rattle.pcc.specs.declared.answer.Carried.the-variants as carried
 use Rattle.pcc.specs.declared.answer.Written.{Written}
 use Rattle.pcc.specs.declared.answer.Written.the-variants as written
-use Rattle.pcc.specs.Reading.{Read}
-use Rattle.pcc.specs.Answers.{says, numberWritten}
+use Rattle.pcc.specs.Answers.{numberRead, sizeRead, notifyRead, numberWritten}
 use Rattle.pcc.proofs.reading.read.Reads as carrying
 use Rattle.pcc.proofs.reading.packet.Reads as packet
 use Rattle.pcc.proofs.reading.refusal.Reads as refusal
@@ -18,16 +17,13 @@ use Rattle.pcc.proofs.reading.notify.Reads as notify
 use Rattle.pcc.proofs.reading.part.Reads as part
 use Rattle.pcc.proofs.writing.write.Reads as writing
 
--- what an answer says is the whole answer
-says-injective : (c d : Carried) → says c ≡ says d → c ≡ d
-says-injective (carried.Packet size notify) (carried.Packet size' notify') e =
-    λ i. carried.Packet (e i .size) (e i .notify)
-says-injective (carried.Packet size notify) (carried.Refused why) e =
-    absurd (let n = ap (λ (r : Read). r .number) e in omega (arith, number-positive why))
-says-injective (carried.Refused why) (carried.Packet size notify) e =
-    absurd (let n = ap (λ (r : Read). r .number) e in omega (arith, number-positive why))
-says-injective (carried.Refused why) (carried.Refused why') e =
-    ap carried.Refused (number-injective why why' (ap (λ (r : Read). r .number) e))
+-- the number, the size and the flag are the whole answer
+read-injective : (c d : Carried) → numberRead c ≡ numberRead d → sizeRead c ≡ sizeRead d → notifyRead c ≡ notifyRead d
+    → c ≡ d
+read-injective (carried.Packet size notify) (carried.Packet size' notify') e s n = λ i. carried.Packet (s i) (n i)
+read-injective (carried.Packet size notify) (carried.Refused why) e s n = absurd (omega (arith, number-positive why))
+read-injective (carried.Refused why) (carried.Packet size notify) e s n = absurd (omega (arith, number-positive why))
+read-injective (carried.Refused why) (carried.Refused why') e s n = ap carried.Refused (number-injective why why' e)
 
 written-injective : (v w : Written) → numberWritten v ≡ numberWritten w → v ≡ w
 written-injective written.Whole written.Whole e = refl
@@ -36,7 +32,8 @@ written-injective (written.Refused why) written.Whole e = absurd (omega (arith, 
 written-injective (written.Refused why) (written.Refused why') e = ap written.Refused (number-injective why why' e)
 
 pub read-determined : (κs : Lfts 1) (a r q e f : _) → carrying.Post κs a r e → carrying.Post κs a q f → r ≡ q
-read-determined κs a r q e f p o = says-injective r q (determined p o)
+read-determined κs a r q e f p o =
+    read-injective r q (determined (p .0) (o .0)) (determined (p .1 .0) (o .1 .0)) (determined (p .1 .1) (o .1 .1))
 
 -- The part holds the same bytes; where it lies is not said.
 pub packet-determined : (κs : Lfts 1) (a r q e f : _) → packet.Post κs a r e → packet.Post κs a q f → r .now ≡ q .now

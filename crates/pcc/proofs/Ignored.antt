@@ -5,18 +5,38 @@ use mathlib.Core.Bool.{Bool}
 use mathlib.Core.List.{List}
 use mathlib.Core.Logic.{by-cases}
 use native.Mathlib.Decide.{decLt}
+use native.Mathlib.Nat.{add-zero}
 use Prim.Native.Nat.{ℕ, _+_, _-_, _%_, _≤_, _<_, min}
 use native.Mathlib.Omega.{arith}
-use lib.Dec.{lit<, lit≤}
+use lib.Dec.{lit<}
 use lib.ListN.{length, getD, drop, length-take, length-drop, length-append}
 use lib.Seq.{ext-getD, getD-take, getD-drop, drop-at}
 use Rattle.octets.specs.Bytes.{fronted}
 use Rattle.octets.specs.Words.{lowFirst, wordAt, wordBytes}
-use Rattle.pcc.specs.Region.{regionOf}
-use Rattle.pcc.specs.Reading.{refusalOf, sizeOf, partOf, packetOf, notifyOf, readOf}
-use Rattle.pcc.specs.Writing.{writeRefusal, writtenOf, Writable}
-use Rattle.pcc.specs.Alike.{Alike, SameAnswers}
-use Rattle.pcc.proofs.Writings.{writable, written-whole, written-refused}
+use Rattle.pcc.specs.Layout.{regionOf}
+use Rattle.pcc.specs.Reading.{refusalOf, sizeOf, partOf, packetOf, notifyOf}
+use Rattle.pcc.specs.Writing.{writeRefusal, writtenOf}
+use Rattle.pcc.proofs.Writings.{Good, good, written-whole, written-refused}
+
+-- regions that differ only where reading does not look: "bit 0 is notify on completion .. the others are ignored in
+-- reading", "bytes after the packet are neither read nor written"
+pub record Alike (most id : ℕ) (a b : List ℕ) : Type 0 where
+  pub lengths : length a ≡ length b
+  pub signatures : (i : ℕ) → i < 4 → getD a i 0 ≡ getD b i 0
+  pub bit-0 : getD a 4 0 % 2 ≡ getD b 4 0 % 2
+  pub up-to-packet : (i : ℕ) → 8 ≤ i → i < 16 + sizeOf most a id → getD a i 0 ≡ getD b i 0
+
+pub record SameAnswers (most id : ℕ) (a b : List ℕ) : Type 0 where
+  pub packets : packetOf most a id ≡ packetOf most b id
+  pub numbers : refusalOf most a id ≡ refusalOf most b id
+  pub sizes : sizeOf most a id ≡ sizeOf most b id
+  pub flags : notifyOf most a id ≡ notifyOf most b id
+
+-- the same four bytes make the same word
+word-same : (a b : List ℕ) (at : ℕ) → ((k : ℕ) → k < 4 → getD a (at + k) 0 ≡ getD b (at + k) 0)
+    → wordAt lowFirst a at ≡ wordAt lowFirst b at
+unfolding wordAt
+word-same a b at e = cc (simp add-zero at (e 0 (lit< tt)), e 1 (lit< tt), e 2 (lit< tt), e 3 (lit< tt))
 
 -- bit 0 of a word is bit 0 of its lowest byte
 low-bit : (s : List ℕ) → wordAt lowFirst s 4 % 2 ≡ getD s 4 0 % 2
@@ -25,37 +45,13 @@ low-bit s = omega arith
 
 module _ {most id : ℕ} {a b : List ℕ} (same : Alike most id a b) where
   signatures-same : wordAt lowFirst a 0 ≡ wordAt lowFirst b 0
-  unfolding wordAt
-  signatures-same =
-      cc (
-        same .signatures 0 (lit< tt),
-        same .signatures 1 (lit< tt),
-        same .signatures 2 (lit< tt),
-        same .signatures 3 (lit< tt),
-      )
-
-  header : (i : ℕ) → 8 ≤ i → i < 16 → getD a i 0 ≡ getD b i 0
-  header i h k = same .up-to-packet i h (omega arith)
+  signatures-same = word-same a b 0 (λ k h. same .signatures (0 + k) (omega arith))
 
   lengths-same : wordAt lowFirst a 8 ≡ wordAt lowFirst b 8
-  unfolding wordAt
-  lengths-same =
-      cc (
-        header 8 (lit≤ tt) (lit< tt),
-        header 9 (lit≤ tt) (lit< tt),
-        header 10 (lit≤ tt) (lit< tt),
-        header 11 (lit≤ tt) (lit< tt),
-      )
+  lengths-same = word-same a b 8 (λ k h. same .up-to-packet (8 + k) (omega arith) (omega arith))
 
   commands-same : wordAt lowFirst a 12 ≡ wordAt lowFirst b 12
-  unfolding wordAt
-  commands-same =
-      cc (
-        header 12 (lit≤ tt) (lit< tt),
-        header 13 (lit≤ tt) (lit< tt),
-        header 14 (lit≤ tt) (lit< tt),
-        header 15 (lit≤ tt) (lit< tt),
-      )
+  commands-same = word-same a b 12 (λ k h. same .up-to-packet (12 + k) (omega arith) (omega arith))
 
   numbers-same : refusalOf most a id ≡ refusalOf most b id
   unfolding refusalOf
@@ -70,7 +66,6 @@ module _ {most id : ℕ} {a b : List ℕ} (same : Alike most id a b) where
   flags-same = rw (numbers-same, low-bit a, low-bit b, same .bit-0)
 
   packets-same : packetOf most a id ≡ packetOf most b id
-  unfolding packetOf
   packets-same =
       ext-getD 0 (partOf a (sizeOf most a id)) (partOf b (sizeOf most a id))
       (simp (length-take, length-drop) (ap (λ (n : ℕ). min (sizeOf most a id) (n - 16)) (same .lengths)))
@@ -87,14 +82,7 @@ module _ {most id : ℕ} {a b : List ℕ} (same : Alike most id a b) where
 
   -- two regions that differ only there give the same answers
   pub ignored : SameAnswers most id a b
-  unfolding readOf
-  ignored =
-      record {
-        packets = packets-same;
-        numbers = numbers-same;
-        flags = flags-same;
-        answers = λ i. record { number = numbers-same i; size = sizes-same i; notify = flags-same i };
-      }
+  ignored = record { packets = packets-same; numbers = numbers-same; sizes = sizes-same; flags = flags-same }
 
 module _ (most id : ℕ) (a b : List ℕ) (lengths : length a ≡ length b) where
   -- "the others are ignored in reading"
@@ -119,19 +107,23 @@ module _ (most id : ℕ) (a b : List ℕ) (lengths : length a ≡ length b) wher
 
 -- ".. nor written", refused or not
 module _ (most : ℕ) (region : List ℕ) (id : ℕ) (notify : Bool) (packet : List ℕ) where
-  either : (P : List ℕ → Type 0)
-      → P region
-      → (Writable most (length region) id (length packet) → P (fronted region (regionOf id notify packet)))
+  abbrev number : ℕ
+  number = writeRefusal most (length region) id (length packet)
+
+  abbrev front : List ℕ
+  front = regionOf id notify packet
+
+  either : (P : List ℕ → Type 0) → P region
+      → (Good most (length region) id (length packet) → P (fronted region front))
       → P (writtenOf most region id notify packet)
   either P kept whole =
-      by-cases (decLt 0 (writeRefusal most (length region) id (length packet)))
-      (λ (h : 0 < writeRefusal most (length region) id (length packet)). rw
-      (written-refused region packet id notify most (omega arith)) kept)
-      (λ (h : 0 < writeRefusal most (length region) id (length packet) → ⊥).
-      let e : writeRefusal most (length region) id (length packet) ≡ 0 = omega arith in
-      rw (written-whole region packet id notify most e) (whole (writable most (length region) id (length packet) e)))
+      by-cases (decLt 0 number)
+      (λ (h : 0 < number). rw (written-refused region packet id notify most (omega arith)) kept)
+      (λ (h : 0 < number → ⊥).
+      let e : number ≡ 0 = omega arith in
+      rw (written-whole region packet id notify most e) (whole (good most (length region) id (length packet) e)))
 
-  front-size : length (regionOf id notify packet) ≡ 16 + length packet
+  front-size : length front ≡ 16 + length packet
   unfolding regionOf wordBytes
   front-size = omega arith
 
@@ -139,11 +131,9 @@ module _ (most : ℕ) (region : List ℕ) (id : ℕ) (notify : Bool) (packet : L
       ≡ drop (16 + length packet) region
   unfolding fronted
   behind-not-written =
-      either (λ r. drop (16 + length packet) r ≡ drop (16 + length packet) region)
-      refl
+      either (λ r. drop (16 + length packet) r ≡ drop (16 + length packet) region) refl
       (λ w.
-      drop-at (regionOf id notify packet) (drop (length (regionOf id notify packet)) region)
-      (16 + length packet) front-size
+      drop-at front (drop (length front) region) (16 + length packet) front-size
       ∙ ap (λ (n : ℕ). drop n region) front-size)
 
   pub length-stays : length (writtenOf most region id notify packet) ≡ length region

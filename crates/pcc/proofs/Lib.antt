@@ -1,11 +1,10 @@
 pub mod Readings
-pub mod Reasons
-pub mod Answers
 pub mod Writings
-pub mod Back
+pub mod Answers
+pub mod RoundTrip
+pub mod Layouts
+pub mod Bytes
 pub mod Ignored
-pub mod Determined
 pub mod Literal
 pub mod Order
-pub mod Bytes
-pub mod Made
+pub mod Determined

@@ -1,22 +1,41 @@
--- The literal region written and read, by computation.
+-- A region worked out by hand from the tables (document 01, "PCC region"; DSP0292, Figure 3), written and read by
+-- computation, so that reading and writing are not only right by each other.
 -- Assumes nothing.
 use mathlib.Core.Path.{_≡_, refl}
 use mathlib.Core.Bool.{true}
-use mathlib.Core.List.{[], _∷_}
+use mathlib.Core.List.{List, [], _∷_}
+use Prim.Native.Nat.{ℕ}
 use lib.ListN.{replicate, take}
 use Rattle.octets.specs.Bytes.{laid, fronted}
-use Rattle.octets.specs.Words.{wordAt, wordBytes}
-use Rattle.pcc.specs.Region.{regionOf}
+use Rattle.octets.specs.Words.{lowFirst, wordAt, wordBytes}
+use Rattle.pcc.specs.Layout.{regionOf}
 use Rattle.pcc.specs.Reading.{refusalOf, sizeOf, packetOf, notifyOf}
 use Rattle.pcc.specs.Writing.{writeRefusal, writtenOf}
-use Rattle.pcc.specs.Literal.{literalPacket, literalRegion, lengthened}
+
+-- the packet of document 01's good frame
+abbrev pub literalPacket : List ℕ
+literalPacket = 0x01 ∷ 0x09 ∷ 0x0A ∷ 0xC8 ∷ 0x00 ∷ []
+
+-- for id 3 with notify, in a region of 84 bytes whose other bytes are all set
+unfoldable pub literalRegion : List ℕ
+literalRegion =
+    0x03 ∷ 0x43 ∷ 0x43 ∷ 0x50
+    ∷ 0x01 ∷ 0x00 ∷ 0x00 ∷ 0x00
+    ∷ 0x09 ∷ 0x00 ∷ 0x00 ∷ 0x00
+    ∷ 0x4D ∷ 0x43 ∷ 0x54 ∷ 0x50
+    ∷ 0x01 ∷ 0x09 ∷ 0x0A ∷ 0xC8 ∷ 0x00
+    ∷ replicate 63 0xFF
+
+-- the same with another length
+unfoldable pub lengthened : ℕ → List ℕ
+lengthened n = laid literalRegion 8 (wordBytes lowFirst n)
 
 pub literal-number : refusalOf 64 literalRegion 3 ≡ 0
 unfolding refusalOf wordAt literalRegion
 literal-number = refl
 
 pub literal-packet : packetOf 64 literalRegion 3 ≡ literalPacket
-unfolding packetOf sizeOf refusalOf wordAt literalRegion
+unfolding sizeOf refusalOf wordAt literalRegion
 literal-packet = refl
 
 pub literal-notify : notifyOf 64 literalRegion 3 ≡ true

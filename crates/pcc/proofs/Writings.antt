@@ -1,78 +1,51 @@
--- Writing a region: for each refusal number the attempts that get it, and the words laid one after the other.
+-- The order of writing: the check that fails first gives the number; `Good` is all that the number 0 says; and the
+-- words laid one after the other.
 -- Assumes nothing.
-use mathlib.Core.Path.{_≡_, sym, _∙_}
-use mathlib.Core.Bool.{Bool, true, false, not, and-false}
+use mathlib.Core.Path.{_≡_, refl, sym, _∙_}
+use mathlib.Core.Bool.{Bool, true}
 use mathlib.Core.List.{List}
-use Prim.Native.Nat.{ℕ, _+_, _≤_, _<_}
+use Prim.Native.Nat.{ℕ, _+_, _≤_}
 use native.Mathlib.Omega.{arith}
-use borrow.Author.Tests.{lt-ltb, le-ltb, ltb-false, lt-leb, ne-eqb, not-false}
-use lib.Dec.{ltb, leb}
+use borrow.Author.Tests.{eq-eqb, ne-eqb}
+use lib.Dec.{eqb}
 use lib.ListN.{length}
-use Rattle.octets.specs.Choice.{pick}
 use Rattle.octets.specs.Bytes.{laid, fronted}
 use Rattle.octets.specs.Words.{lowFirst, wordBytes}
-use Rattle.octets.proofs.Choice.{passed, within-bounds, within-holds}
+use Rattle.octets.proofs.Checks.{FailsAt, Hold, answerAt, first-failing, none-failing, all-hold, tests}
 use Rattle.octets.proofs.Laid.{laid-append, laid-front}
-use Rattle.mctp.specs.Packet.{bodyRight, sizeRight}
-use Rattle.pcc.specs.Region.{signatureOf, flagsOf, lengthOf, command, regionOf, roomFor}
-use Rattle.pcc.specs.Writing.{writeRefusal, writtenOf, Writable}
+use Rattle.mctp.specs.Packet.{bodyRight}
+use Rattle.pcc.specs.Layout.{signatureOf, flagsOf, lengthOf, command, regionOf}
+use Rattle.pcc.specs.Writing.{writeOrder, writeRefusal, writtenOf}
+
+-- what may be written
+pub record Good (most room id size : ℕ) : Type 0 where
+  pub body : bodyRight most ≡ true
+  pub subspace : id ≤ 255
+  pub least : 5 ≤ size
+  pub greatest : size ≤ 4 + most
+  pub region : 84 ≤ room
+  pub held : 16 + size ≤ room
 
 module _ (most room id size : ℕ) where
-  -- 1: a largest body that no set-up may ask for
-  pub setup-body : bodyRight most ≡ false → writeRefusal most room id size ≡ 1
+  -- the number of the check at place i, where it is the first that fails
+  pub refused-at : (i : ℕ) → FailsAt (writeOrder most room id size) i
+      → writeRefusal most room id size ≡ answerAt (writeOrder most room id size) 0 i
   unfolding writeRefusal
-  setup-body e = rw e
+  refused-at = first-failing (writeOrder most room id size) 0
 
-  module _ (body : bodyRight most ≡ true) where
-    -- 1: "id over 255"
-    pub setup-id : 255 < id → writeRefusal most room id size ≡ 1
-    unfolding writeRefusal
-    setup-id h = rw (body, lt-ltb 255 id h)
-
-    module _ (subspace : id ≤ 255) where
-      -- past the set-up, by the packet's size
-      sized : (t : Bool) → sizeRight most size ≡ t
-          → writeRefusal most room id size ≡ pick (not t) 3 (pick (ltb room (roomFor size)) 2 0)
-      unfolding writeRefusal
-      sized t e = rw (body, le-ltb 255 id subspace, e)
-
-      -- 3: a packet under 5 bytes
-      pub short : size < 5 → writeRefusal most room id size ≡ 3
-      short h = sized false (rw (lt-leb 5 size h))
-
-      -- 3: a packet over 68 bytes
-      pub long : 4 + most < size → writeRefusal most room id size ≡ 3
-      long h = sized false (rw (lt-leb size (4 + most) h) (and-false (leb 5 size)))
-
-      module _ (least : 5 ≤ size) (greatest : size ≤ 4 + most) where
-        -- 2: "region under 84", or under what the packet needs
-        pub no-room : room < roomFor size → writeRefusal most room id size ≡ 2
-        no-room h = sized true (within-holds 5 (4 + most) size least greatest) ∙ rw (lt-ltb room (roomFor size) h)
-
-        -- 0: nothing to refuse
-        pub fits : roomFor size ≤ room → writeRefusal most room id size ≡ 0
-        fits h = sized true (within-holds 5 (4 + most) size least greatest) ∙ rw (le-ltb room (roomFor size) h)
+  -- 0 where none fails
+  pub none-refused : Hold (writeOrder most room id size) → writeRefusal most room id size ≡ 0
+  unfolding writeRefusal
+  none-refused = none-failing (writeOrder most room id size) 0
 
   -- what may be written, fact by fact
-  pub writable : writeRefusal most room id size ≡ 0 → Writable most room id size
+  pub good : writeRefusal most room id size ≡ 0 → Good most room id size
   unfolding writeRefusal
-  writable e =
-      let a = passed (not (bodyRight most)) 0 _ e in
-      let b = passed (ltb 255 id) 0 _ (a .1) in
-      let c = passed (not (sizeRight most size)) 2 _ (b .1) in
-      let d = passed (ltb room (roomFor size)) 1 0 (c .1) in
-      let bounds = within-bounds 5 (4 + most) size (not-false _ (c .0)) in
-      record {
-        body = not-false (bodyRight most) (a .0);
-        subspace = ltb-false 255 id (b .0);
-        least = bounds .0;
-        greatest = bounds .1;
-        held = ltb-false room (roomFor size) (d .0);
-      }
+  good e = let h = all-hold (λ n. eqb n 0) (writeOrder most room id size) 0 refl (eq-eqb _ 0 e) in omega (arith, tests)
 
   -- and those facts are enough
-  pub writable-number : Writable most room id size → writeRefusal most room id size ≡ 0
-  writable-number w = fits (w .body) (w .subspace) (w .least) (w .greatest) (w .held)
+  pub good-number : Good most room id size → writeRefusal most room id size ≡ 0
+  good-number g = none-refused (omega (arith, tests))
 
 module _ (region packet : List ℕ) (id : ℕ) (notify : Bool) where
   -- the words and the packet laid one after the other make the front

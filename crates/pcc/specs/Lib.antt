@@ -1,7 +1,4 @@
-pub mod Region
+pub mod Layout
 pub mod Reading
-pub mod Reasons
 pub mod Writing
 pub mod Answers
-pub mod Alike
-pub mod Literal

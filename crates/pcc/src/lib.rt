@@ -1,7 +1,7 @@
 // The PCC carrier: a packet read as a part of a lent region, and written to a region's front.
 mod answer;
+mod layout;
 mod reading;
-mod region;
 mod writing;
 
 pub use answer::Carried;

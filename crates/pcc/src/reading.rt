@@ -1,18 +1,18 @@
 // A region read: the packet as a part of it, the refusal number, the notify flag.
 use crate::answer::Carried;
-use crate::region::COMMAND;
-use crate::region::SIGNATURE;
-use crate::region::body_right;
+use crate::layout::COMMAND;
+use crate::layout::SIGNATURE;
 use mctp::LARGEST_BODY;
 use mctp::Refusal;
 ghost use mathlib.Core.Path.{_≡_};
-ghost use Prim.Native.Nat.{_≤_};
-ghost use Rattle.pcc.specs.Reading.{longest, partOf, refusalOf, packetOf, notifyOf, readOf};
-ghost use Rattle.pcc.specs.Answers.{says};
+ghost use Rattle.pcc.specs.Reading.{refusalOf, sizeOf, partOf, packetOf, notifyOf};
+ghost use Rattle.pcc.specs.Answers.{numberRead, sizeRead, notifyRead};
 
 // What the region carries under this id: the packet's size with the notify flag, or the refusal.
 pub fn read(region: &[u8], id: u32) -> Carried
-    ensures { λ r. ⌜ says r ≡ readOf 64 (now (region .entry)) id ⌝ }
+    ensures number { λ r. ⌜ numberRead r ≡ refusalOf 64 (now (region .entry)) id ⌝ }
+    ensures size { λ r. ⌜ sizeRead r ≡ sizeOf 64 (now (region .entry)) id ⌝ }
+    ensures notify { λ r. ⌜ notifyRead r ≡ notifyOf 64 (now (region .entry)) id ⌝ }
 {
     read_within(LARGEST_BODY, region, id)
 }
@@ -53,21 +53,16 @@ pub fn notify(region: &[u8], id: u32) -> bool
 pub fn part(region: &[u8], size: usize) -> &[u8]
     ensures { λ r. ⌜ now r ≡ partOf (now (region .entry)) size ⌝ }
 {
-    let all = region.len();
-    if all < 16 {
-        return &region[0..0];
-    }
-    if size < all - 16 {
-        return &region[16..16 + size];
-    }
-    &region[16..all]
+    octets::part(region, 16, size)
 }
 
 // The one function that looks at a region; every check has its line, in the order of document 01.
 fn read_within(most: usize, region: &[u8], id: u32) -> Carried
-    ensures { λ r. ⌜ says r ≡ readOf most (now (region .entry)) id ⌝ }
+    ensures number { λ r. ⌜ numberRead r ≡ refusalOf most (now (region .entry)) id ⌝ }
+    ensures size { λ r. ⌜ sizeRead r ≡ sizeOf most (now (region .entry)) id ⌝ }
+    ensures notify { λ r. ⌜ notifyRead r ≡ notifyOf most (now (region .entry)) id ⌝ }
 {
-    if !body_right(most) {
+    if !mctp::body_right(most) {
         return Carried::Refused(Refusal::Setup);
     }
     if 255 < id {
@@ -86,22 +81,14 @@ fn read_within(most: usize, region: &[u8], id: u32) -> Carried
     if length < 9 {
         return Carried::Refused(Refusal::Size);
     }
-    if longest_in(most, region.len()) < length {
+    if most < length - 8 {
+        return Carried::Refused(Refusal::Size);
+    }
+    if region.len() - 12 < length {
         return Carried::Refused(Refusal::Size);
     }
     Carried::Packet {
         size: length - 4,
         notify: octets::word_low_first(region, 4) % 2 == 1,
-    }
-}
-
-fn longest_in(most: usize, room: usize) -> usize
-    requires { ⌜ (most ≤ 246) × (12 ≤ room) ⌝ }
-    ensures { λ r. ⌜ r ≡ longest most room ⌝ }
-{
-    if 8 + most < room - 12 {
-        8 + most
-    } else {
-        room - 12
     }
 }

@@ -1,69 +1,63 @@
 // A packet written to a region's front.
 use crate::answer::Written;
-use crate::region::COMMAND;
-use crate::region::SIGNATURE;
-use crate::region::body_right;
+use crate::layout::COMMAND;
+use crate::layout::SIGNATURE;
 use mctp::LARGEST_BODY;
+use mctp::Outcome;
 use mctp::Refusal;
 ghost use mathlib.Core.Path.{_≡_};
 ghost use Prim.Native.Nat.{_+_, _≤_};
 ghost use lib.ListN.{length};
 ghost use Rattle.octets.specs.Bytes.{fronted};
-ghost use Rattle.pcc.specs.Region.{flagsOf, regionOf, roomFor};
+ghost use Rattle.mctp.specs.Refusals.{outcomeNumber};
+ghost use Rattle.pcc.specs.Layout.{flagsOf, regionOf};
 ghost use Rattle.pcc.specs.Writing.{writeRefusal, writtenOf};
 ghost use Rattle.pcc.specs.Answers.{numberWritten};
 
 // The packet written under this id; where refused the region stays as it was.
 pub fn write(region: &mut [u8], id: u32, notify: bool, packet: &[u8]) -> Written
-    ensures { λ r. ⌜ numberWritten r ≡ writeRefusal 64 (length (now (region .entry))) id
+    ensures number { λ r. ⌜ numberWritten r ≡ writeRefusal 64 (length (now (region .entry))) id
         (length (now (packet .entry))) ⌝ }
-    ensures { λ _. ⌜ now (region .exit) ≡ writtenOf 64 (now (region .entry)) id notify (now (packet .entry)) ⌝ }
+    ensures region { λ _. ⌜ now (region .exit) ≡ writtenOf 64 (now (region .entry)) id notify (now (packet .entry)) ⌝ }
 {
     write_within(LARGEST_BODY, region, id, notify, packet)
 }
 
 fn write_within(most: usize, region: &mut [u8], id: u32, notify: bool, packet: &[u8]) -> Written
-    ensures { λ r. ⌜ numberWritten r ≡ writeRefusal most (length (now (region .entry))) id
+    ensures number { λ r. ⌜ numberWritten r ≡ writeRefusal most (length (now (region .entry))) id
         (length (now (packet .entry))) ⌝ }
-    ensures { λ _. ⌜ now (region .exit) ≡ writtenOf most (now (region .entry)) id notify (now (packet .entry)) ⌝ }
+    ensures region { λ _. ⌜ now (region .exit) ≡ writtenOf most (now (region .entry)) id notify
+        (now (packet .entry)) ⌝ }
 {
-    let allowed = may_write(most, region.len(), id, packet.len());
-    match allowed {
-        Written::Whole => {
+    match may_write(most, region.len(), id, packet.len()) {
+        Outcome::Good => {
             fill(region, id, notify, packet);
             Written::Whole
         }
-        Written::Refused(why) => Written::Refused(why),
+        Outcome::Refused(why) => Written::Refused(why),
     }
 }
 
 // Whether a packet of this size may be written: by the lengths and the id alone.
-fn may_write(most: usize, room: usize, id: u32, size: usize) -> Written
-    ensures { λ r. ⌜ numberWritten r ≡ writeRefusal most room id size ⌝ }
+fn may_write(most: usize, room: usize, id: u32, size: usize) -> Outcome
+    ensures { λ r. ⌜ outcomeNumber r ≡ writeRefusal most room id size ⌝ }
 {
-    if !body_right(most) {
-        return Written::Refused(Refusal::Setup);
+    if !mctp::body_right(most) {
+        return Outcome::Refused(Refusal::Setup);
     }
     if 255 < id {
-        return Written::Refused(Refusal::Setup);
+        return Outcome::Refused(Refusal::Setup);
     }
-    if size < 5 {
-        return Written::Refused(Refusal::Size);
+    if !mctp::size_right(most, size) {
+        return Outcome::Refused(Refusal::Size);
     }
-    if 4 + most < size {
-        return Written::Refused(Refusal::Size);
+    if room < 84 {
+        return Outcome::Refused(Refusal::Room);
     }
-    if room < room_for(size) {
-        return Written::Refused(Refusal::Room);
+    if room - 16 < size {
+        return Outcome::Refused(Refusal::Room);
     }
-    Written::Whole
-}
-
-fn room_for(size: usize) -> usize
-    requires { ⌜ size ≤ 250 ⌝ }
-    ensures { λ r. ⌜ r ≡ roomFor size ⌝ }
-{
-    if 16 + size < 84 { 84 } else { 16 + size }
+    Outcome::Good
 }
 
 // The four words and the packet, one after the other.

@@ -23,8 +23,7 @@ use Rattle.smbus.proofs.Answers.{told-good, told-packet, told-source, told-numb
 use Rattle.pcc.specs.declared.answer.Carried as pcc
 use Rattle.pcc.specs.declared.answer.Carried.the-variants as pcc-case
 use Rattle.pcc.specs.Reading as region
-use Rattle.pcc.specs.Answers as pcc-says
-use Rattle.pcc.proofs.Answers.{number-said, notify-said, packet-said}
+use Rattle.pcc.proofs.Answers as pcc-says
 use Rattle.mmbi.specs.declared.interface.Flags.{Flags}
 use Rattle.mmbi.specs.Interface.{stateOf, mayRead}
 use Rattle.ring.specs.declared.answer.Carried as ring
@@ -59,20 +58,20 @@ module _ (most : ℕ) (f : List ℕ) (own : ℕ) (c : smbus.Carried)
         told-source most f own c says a is,
       )
 
-module _ (most : ℕ) (r : List ℕ) (id : ℕ) (c : pcc.Carried) (says : pcc-says.says c ≡ region.readOf most r id) where
+module _ (most : ℕ) (r : List ℕ) (id : ℕ) (c : pcc.Carried) (says : pcc-says.Says most r id c) where
   pub pcc-none : (why : Refusal) → c ≡ pcc-case.Refused why → pccBrings most r id ≡ none (without (whyPcc c))
   unfolding pccBrings
   pcc-none why is =
-      let n : region.refusalOf most r id ≡ numberOf why = sym (number-said most r id says is) in
+      let n : region.refusalOf most r id ≡ numberOf why = sym (pcc-says.told-number most r id says is) in
       rw (ne-eqb (region.refusalOf most r id) 0 (not-zero why n), n, is)
 
   pub pcc-packet : (size : ℕ) (notify : Bool) → c ≡ pcc-case.Packet size notify
       → pccBrings most r id ≡ packet (region.partOf r size) (Notify notify)
   unfolding pccBrings
   pcc-packet size notify is =
-      let z : region.refusalOf most r id ≡ 0 = sym (number-said most r id says is) in
-      let p : region.packetOf most r id ≡ region.partOf r size = sym (packet-said most r id says is) in
-      let f : region.notifyOf most r id ≡ notify = sym (notify-said most r id says is) in
+      let z : region.refusalOf most r id ≡ 0 = sym (pcc-says.told-number most r id says is) in
+      let p : region.packetOf most r id ≡ region.partOf r size = sym (pcc-says.told-packet most r id says is) in
+      let f : region.notifyOf most r id ≡ notify = sym (pcc-says.told-notify most r id says is) in
       rw (eq-eqb (region.refusalOf most r id) 0 z, p, f)
 
 -- the second, third and fourth kind of a ring's answer

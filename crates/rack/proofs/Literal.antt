@@ -7,7 +7,7 @@ use Prim.Native.Nat.{ℕ}
 use lib.ListN.{replicate}
 use Rattle.octets.specs.Words.{wordAt}
 use Rattle.smbus.proofs.Literal as frame
-use Rattle.pcc.specs.Literal.{literalPacket, literalRegion}
+use Rattle.pcc.proofs.Literal.{literalPacket, literalRegion}
 use Rattle.pcc.proofs.Literal as region
 use Rattle.mmbi.specs.declared.interface.Flags.{Flags}
 use Rattle.mmbi.specs.Interface.{normalRuntime, stateOf}

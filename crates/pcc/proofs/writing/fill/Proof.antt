@@ -6,17 +6,22 @@ use borrow.Author.Needs.{needs}
 use Rattle.pcc.proofs.writing.fill.Statement.{statement}
 use Rattle.pcc.proofs.writing.fill.Tie as tie
 
+-- the places after the packet and after each word, from the last to the first
 returns : tie.Need-returns
 returns c =
-    let a =
-    c .before .before .before .before .before .before .before .before .before .before .before .before .before .before .before .before .before .before .before .before .before .before .before .args in
+    let packet = c .before .before in
+    let fourth = packet .before .before .before .before in
+    let third = fourth .before .before .before .before in
+    let second = third .before .before .before .before in
+    let first = second .before .before .before .before .before in
+    let a = first .before .before .before .before .args in
     rw (
-      c .before .before .lay .ensures,
-      c .before .before .before .before .before .before .lay-low-first4 .ensures,
-      c .before .before .before .before .before .before .before .before .before .before .lay-low-first3 .ensures,
-      c .before .before .before .before .before .before .before .before .before .before .before .before .before .before .lay-low-first2 .ensures,
-      c .before .before .before .before .before .before .before .before .before .before .before .before .before .before .before .flags .ensures,
-      c .before .before .before .before .before .before .before .before .before .before .before .before .before .before .before .before .before .before .before .lay-low-first .ensures,
+      packet .lay .ensures,
+      fourth .lay-low-first4 .ensures,
+      third .lay-low-first3 .ensures,
+      second .lay-low-first2 .ensures,
+      second .before .flags .ensures,
+      first .lay-low-first .ensures,
     )
     (filled (a .region .now) (a .packet .now) (a .id) (a .notify) (omega arith))
 

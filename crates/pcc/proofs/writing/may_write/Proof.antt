@@ -1,13 +1,12 @@
--- `pcc::writing::may_write` meets its contract: each refusal by its law.
+-- `pcc::writing::may_write` meets its contract: at each return the check that failed first, or none.
 -- Assumes nothing.
 use mathlib.Core.Path.{_≡_, sym, _∙_}
 use mathlib.Core.Bool.{true}
-use Prim.Native.Nat.{_≤_}
 use native.Mathlib.Omega.{arith}
 use borrow.Author.Tests.{not-true, not-false}
-use Rattle.octets.proofs.Choice.{within-bounds}
-use Rattle.mctp.specs.Packet.{bodyRight}
-use Rattle.pcc.proofs.Writings.{setup-body, setup-id, short, long, no-room, fits}
+use Rattle.octets.proofs.Checks.{tests}
+use Rattle.mctp.specs.Packet.{bodyRight, sizeRight}
+use Rattle.pcc.proofs.Writings.{refused-at, none-refused}
 use borrow.Author.Needs.{needs}
 use Rattle.pcc.proofs.writing.may_write.Statement.{statement}
 use Rattle.pcc.proofs.writing.may_write.Tie as tie
@@ -15,36 +14,31 @@ use Rattle.pcc.proofs.writing.may_write.Tie as tie
 body : (c : tie.Else1) → bodyRight (c .before .before .args .most) ≡ true
 body c = sym (c .before .body-right .ensures) ∙ not-false _ (c .if1 .left)
 
-limits : (c : tie.Else1) → (64 ≤ c .before .before .args .most) × (c .before .before .args .most ≤ 246)
-limits c = within-bounds 64 246 _ (body c)
+sized : (c : tie.Else3) →
+    let a = c .before .before .before .before .before .args in
+    (bodyRight (a .most) ≡ true) × (sizeRight (a .most) (a .size) ≡ true)
+sized c = (body (c .before .before .before), sym (c .before .size-right .ensures) ∙ not-false _ (c .if3 .left))
 
 returns : tie.Need-returns
-returns c = sym (setup-body _ _ _ _ (sym (c .before .body-right .ensures) ∙ not-true _ (c .if1 .taken)))
+returns c = sym (refused-at _ _ _ _ 0 (sym (c .before .body-right .ensures) ∙ not-true _ (c .if1 .taken)))
 
 returns-2 : tie.Need-returns-2
-returns-2 c = sym (setup-id _ _ _ _ (body (c .before)) (omega arith))
+returns-2 c = let b = body (c .before) in sym (refused-at _ _ _ _ 1 (omega (arith, tests)))
 
 returns-3 : tie.Need-returns-3
-returns-3 c = sym (short _ _ _ _ (body (c .before .before)) (omega arith) (omega arith))
-
-add-if4 : tie.Need-add-if4
-add-if4 c = omega (arith, limits (c .before .before))
+returns-3 c =
+    let b = body (c .before .before .before) in
+    let s = sym (c .before .size-right .ensures) ∙ not-true _ (c .if3 .taken) in
+    sym (refused-at _ _ _ _ 2 (omega (arith, tests)))
 
 returns-4 : tie.Need-returns-4
-returns-4 c = sym (long _ _ _ _ (body (c .before .before .before)) (omega arith) (omega arith))
-
-room-for-requires : tie.Need-room-for-requires
-room-for-requires c κs = omega (arith, limits (c .before .before .before))
+returns-4 c = let s = sized (c .before) in sym (refused-at _ _ _ _ 3 (omega (arith, tests)))
 
 returns-5 : tie.Need-returns-5
-returns-5 c =
-    let one = c .before .before .before .before .before in
-    sym (no-room _ _ _ _ (body one) (omega arith) (omega arith) (omega arith) (omega arith))
+returns-5 c = let s = sized (c .before .before) in sym (refused-at _ _ _ _ 4 (omega (arith, tests)))
 
 returns-6 : tie.Need-returns-6
-returns-6 c =
-    let one = c .before .before .before .before .before in
-    sym (fits _ _ _ _ (body one) (omega arith) (omega arith) (omega arith) (omega arith))
+returns-6 c = let s = sized (c .before .before) in sym (none-refused _ _ _ _ (omega (arith, tests)))
 
 pub may-write-spec : {M : Type 1} → statement M
 may-write-spec =
@@ -53,9 +47,9 @@ may-write-spec =
     (λ c κs. search needs)
     returns
     returns-2
+    (λ c κs. search needs)
     returns-3
-    add-if4
     returns-4
-    room-for-requires
+    (λ c. search needs)
     returns-5
     returns-6)

@@ -2,16 +2,16 @@
 -- Assumes nothing.
 use mathlib.Core.Path.{_≡_, refl, ap, sym, _∙_}
 use mathlib.Core.List.{List, _++_}
-use Prim.Native.Nat.{ℕ, _+_, _-_, _≤_}
+use Prim.Native.Nat.{ℕ, _+_, _≤_}
 use native.Mathlib.Omega.{arith}
-use lib.ListN.{length, take, drop, length-take, length-drop}
+use lib.ListN.{length, take, drop}
 use lib.Seq.{take-add, drop-drop}
 use Rattle.octets.specs.Bytes.{Below}
 use Rattle.octets.specs.Words.{lowFirst, wordAt, wordBytes}
 use Rattle.octets.proofs.Words.{bytes-back}
-use Rattle.pcc.specs.Region.{signatureOf, lengthOf, command, regionWith}
-use Rattle.pcc.specs.Reading.{refusalOf, sizeOf, packetOf, Good}
-use Rattle.pcc.proofs.Readings.{good}
+use Rattle.pcc.specs.Layout.{signatureOf, lengthOf, command, regionWith}
+use Rattle.pcc.specs.Reading.{refusalOf, sizeOf, packetOf}
+use Rattle.pcc.proofs.Readings.{Good, good, good-size, packet-length}
 
 -- four bytes, and then what stands behind them
 four-first : (s : List ℕ) (at n : ℕ) → take (4 + n) (drop at s) ≡ take 4 (drop at s) ++ take n (drop (at + 4) s)
@@ -33,25 +33,19 @@ module _ (most : ℕ) (region : List ℕ) (id : ℕ) (b : Below 256 region) (e :
   g : Good most region id
   g = good most region id e
 
-  size : sizeOf most region id ≡ wordAt lowFirst region 8 - 4
-  unfolding sizeOf
-  size = rw e
-
   abbrev packet : List ℕ
   packet = packetOf most region id
 
   -- the packet has as many bytes as the length word says
   counted : 4 + length packet ≡ wordAt lowFirst region 8
-  unfolding packetOf
-  counted = rw size (simp (length-take, length-drop) (omega (arith, g .least, g .held)))
+  counted = omega (arith, packet-length most region id e, g .least)
 
   word : (at w : ℕ) → at + 4 ≤ 84 → wordAt lowFirst region at ≡ w → take 4 (drop at region) ≡ wordBytes lowFirst w
   word at w h is = bytes-back lowFirst region at b (omega (arith, g .room)) ∙ ap (wordBytes lowFirst) is
 
   part : take (length packet) (drop 16 region) ≡ packet
-  unfolding packetOf
   part =
-      let same : length packet ≡ sizeOf most region id = omega (arith, counted, size) in
+      let same : length packet ≡ sizeOf most region id = omega (arith, counted, good-size most region id e) in
       ap (λ (n : ℕ). take n (drop 16 region)) same
 
   pub good-front : take (16 + length packet) region ≡ regionWith id (wordAt lowFirst region 4) packet

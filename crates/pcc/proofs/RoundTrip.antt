@@ -3,21 +3,21 @@
 use mathlib.Core.Path.{_≡_, refl}
 use mathlib.Core.Bool.{Bool, true, false}
 use mathlib.Core.List.{List, _++_}
-use Prim.Native.Nat.{ℕ, _+_, _-_, _%_, _^_, _≤_, _<_}
+use Prim.Native.Nat.{ℕ, _+_, _-_, _%_, _^_, _≤_, _<_, max}
 use native.Mathlib.Omega.{arith}
 use lib.Dec.{eqb, lit<}
 use lib.ListN.{length, drop, replicate, length-append, length-drop, length-replicate}
 use lib.Seq.{take-append-seam}
 use Rattle.octets.specs.Bytes.{fronted}
 use Rattle.octets.specs.Words.{lowFirst, wordAt, wordBytes}
-use Rattle.octets.proofs.Choice.{within-bounds}
+use Rattle.octets.proofs.Checks.{tests}
 use Rattle.octets.proofs.Words.{word-back}
 use Rattle.mctp.specs.Packet.{bodyRight, sizeRight}
-use Rattle.pcc.specs.Region.{signatureOf, flagsOf, lengthOf, command, regionOf, roomFor, regionFor}
-use Rattle.pcc.specs.Reading.{refusalOf, sizeOf, partOf, packetOf, notifyOf, Good}
-use Rattle.pcc.specs.Writing.{writeRefusal, writtenOf, Writable}
-use Rattle.pcc.proofs.Readings.{good-number}
-use Rattle.pcc.proofs.Writings.{writable, written-whole}
+use Rattle.pcc.specs.Layout.{signatureOf, flagsOf, lengthOf, command, regionOf, regionFor}
+use Rattle.pcc.specs.Reading.{refusalOf, sizeOf, partOf, packetOf, notifyOf}
+use Rattle.pcc.specs.Writing.{writeRefusal, writtenOf}
+use Rattle.pcc.proofs.Readings.{Good, good-number, good-size}
+use Rattle.pcc.proofs.Writings as writing
 
 flags-below : (b : Bool) → flagsOf b < 2 ^ 32
 flags-below true = lit< tt
@@ -53,35 +53,22 @@ module _ (id : ℕ) (notify : Bool) (packet rest : List ℕ) where
   unfolding regionOf wordBytes
   part-16 = take-append-seam packet rest
 
-  module _ (most : ℕ) (w : Writable most (16 + length packet + length rest) id (length packet)) where
-    limits : (64 ≤ most) × (most ≤ 246)
-    limits = within-bounds 64 246 most (w .body)
+  module _ (most : ℕ) (w : writing.Good most (16 + length packet + length rest) id (length packet)) where
+    eight : wordAt lowFirst (regionOf id notify packet ++ rest) 8 ≡ lengthOf (length packet)
+    eight = word-8 (omega (arith, tests))
 
     pub front-good : Good most (regionOf id notify packet ++ rest) id
     front-good =
-        let l = limits in
-        let all = front-length in
-        let eight = word-8 (omega arith) in
-        record {
-          body = w .body;
-          subspace = w .subspace;
-          room = omega arith;
-          signed = word-0 (w .subspace);
-          commanded = word-12;
-          least = omega arith;
-          greatest = omega arith;
-          held = omega arith;
-        }
+        omega (arith, tests, front-length, word-0 (w .subspace), word-12, eight)
 
     pub front-number : refusalOf most (regionOf id notify packet ++ rest) id ≡ 0
     front-number = good-number most (regionOf id notify packet ++ rest) id front-good
 
     pub front-packet : packetOf most (regionOf id notify packet ++ rest) id ≡ packet
-    unfolding packetOf sizeOf
     front-packet =
-        let l = limits in
-        let size : lengthOf (length packet) - 4 ≡ length packet = omega arith in
-        rw (front-number, word-8 (omega arith), size) part-16
+        let size : sizeOf most (regionOf id notify packet ++ rest) id ≡ length packet =
+        omega (arith, good-size most (regionOf id notify packet ++ rest) id front-number, eight) in
+        rw size part-16
 
     pub front-notify : notifyOf most (regionOf id notify packet ++ rest) id ≡ notify
     unfolding notifyOf
@@ -95,19 +82,12 @@ module _ (most : ℕ) (region : List ℕ) (id : ℕ) (notify : Bool) (packet : L
 
   whole : writtenOf most region id notify packet ≡ regionOf id notify packet ++ rest
   unfolding fronted rest
-  whole = written-whole region packet id notify most allowed
+  whole = writing.written-whole region packet id notify most allowed
 
-  room : Writable most (16 + length packet + length rest) id (length packet)
+  room : writing.Good most (16 + length packet + length rest) id (length packet)
   unfolding regionOf wordBytes rest
   room =
-      let w = writable most (length region) id (length packet) allowed in
-      record {
-        body = w .body;
-        subspace = w .subspace;
-        least = w .least;
-        greatest = w .greatest;
-        held = simp length-drop (omega arith);
-      }
+      let w = writing.good most (length region) id (length packet) allowed in simp length-drop (omega (arith, tests))
 
   pub back-number : refusalOf most (writtenOf most region id notify packet) id ≡ 0
   back-number = rw whole (front-number id notify packet rest most room)
@@ -124,19 +104,11 @@ module _ (most id : ℕ) (notify : Bool) (packet : List ℕ) (body : bodyRight m
   zeros : List ℕ
   zeros = replicate (84 - (16 + length packet)) 0
 
-  fitting : Writable most (16 + length packet + length zeros) id (length packet)
+  fitting : writing.Good most (16 + length packet + length zeros) id (length packet)
   unfolding zeros
-  fitting =
-      let bounds = within-bounds 5 (4 + most) (length packet) sized in
-      record {
-        body = body;
-        subspace = subspace;
-        least = bounds .0;
-        greatest = bounds .1;
-        held = simp length-replicate (omega arith);
-      }
+  fitting = simp length-replicate (omega (arith, tests))
 
-  pub every-length : length (regionFor id notify packet) ≡ roomFor (length packet)
+  pub every-length : length (regionFor id notify packet) ≡ max 84 (16 + length packet)
   unfolding regionFor
   every-length =
       let all = front-length id notify packet (replicate (84 - (16 + length packet)) 0) in

@@ -1,6 +1,6 @@
 -- The layout of a PCC region (document 01, "PCC region"; DSP0292, 8.4): four words, "little endian", then the packet.
 -- Assumes nothing.
-use Prim.Native.Nat.{ℕ, _+_, _-_, max}
+use Prim.Native.Nat.{ℕ, _+_, _-_}
 use mathlib.Core.Bool.{Bool}
 use mathlib.Core.List.{List, _++_}
 use lib.ListN.{length, replicate}
@@ -35,10 +35,6 @@ regionWith id flags packet =
 -- as it is written
 unfoldable pub regionOf : ℕ → Bool → List ℕ → List ℕ
 regionOf id notify packet = regionWith id (flagsOf notify) packet
-
--- "A region has at least 84 bytes", and more for a packet that is longer than 68
-abbrev pub roomFor : ℕ → ℕ
-roomFor size = max 84 (16 + size)
 
 -- a region for any packet: its front, and zeros up to the least size
 unfoldable pub regionFor : ℕ → Bool → List ℕ → List ℕ
