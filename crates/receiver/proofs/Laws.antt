@@ -8,7 +8,7 @@ use native.Mathlib.Omega.{arith}
 use contract.Lifetimes.{Lfts}
 use lib.Dec.{lit<}
 use lib.ListN.{length}
-use Rattle.octets.proofs.Laid.{laid-length}
+use Rattle.octets.proofs.Laid.{laid-length, laid-before, laid-behind}
 use Rattle.mctp.specs.Packet.{bodyOf}
 use Rattle.mctp.specs.Key.{keyOf}
 use Rattle.slots.specs.declared.state.SlotState.{SlotState}
@@ -24,7 +24,6 @@ use Rattle.decision.proofs.Decided.{every-decision}
 use Rattle.decision.proofs.decide.Reads as decide
 use Rattle.receiver.specs.Effects.{Unchanged, SlotFreed, OneSlot}
 use Rattle.receiver.specs.Step.{refused, answerOf, carriedOut, stepOf}
-use Rattle.octets.proofs.Parts.{laid-before, laid-behind}
 
 -- giving a packet is the decision carried out
 pub step-is-decision : (most : ℕ) (r : Receiver) (m p : List ℕ)

@@ -8,7 +8,7 @@ use native.Mathlib.Omega.{arith}
 use lib.ListN.{length}
 use Rattle.octets.specs.Bytes.{laid}
 use Rattle.records.specs.Decimal.{decimal}
-use Rattle.records.proofs.Laid.{laid-before}
+use Rattle.octets.proofs.Laid.{laid-in-front}
 use Rattle.records.proofs.Decimals.{decimal-one, decimal-more, count-one, count-more}
 
 -- over l the last digits of n are laid, from place at + left on; those of `rest` are to come
@@ -30,7 +30,7 @@ module _ {l : List ℕ} {at n left rest : ℕ} {out : List ℕ} (y : Laying l at
       let place : at + left ≡ suc (at + (left - 1)) = omega (arith, y .counted, count-more rest h m) in
       record {
         tail = (48 + rest % 10) ∷ y .tail;
-        stored = rw (y .stored, place) (laid-before l (at + (left - 1)) (y .tail) (48 + rest % 10));
+        stored = rw (y .stored, place) (laid-in-front l (at + (left - 1)) (y .tail) (48 + rest % 10));
         whole =
             sym (append-assoc (decimal (rest / 10)) ((48 + rest % 10) ∷ []) (y .tail))
             ∙ ap (λ (d : List ℕ). d ++ y .tail) (sym (decimal-more rest h m))
@@ -42,4 +42,4 @@ module _ {l : List ℕ} {at n left rest : ℕ} {out : List ℕ} (y : Laying l at
   pub laying-last : rest < 10 → laid out at ((48 + rest % 10) ∷ []) ≡ laid l at (decimal n)
   laying-last h =
       let place : at + left ≡ suc at = omega (arith, y .counted, count-one rest h) in
-      rw (y .stored, place, mod-eq-of-lt h, sym (y .whole), decimal-one rest h) (laid-before l at (y .tail) (48 + rest))
+      rw (y .stored, place, mod-eq-of-lt h, sym (y .whole), decimal-one rest h) (laid-in-front l at (y .tail) (48 + rest))

@@ -1,6 +1,5 @@
 pub mod Records
 pub mod Walks
-pub mod Laid
 pub mod Decimals
 pub mod Laying
 pub mod Lines

@@ -8,8 +8,7 @@ use native.Mathlib.Omega.{arith}
 use lib.ListN.{length, getD, take, drop, set, length-take, length-drop}
 use lib.Seq.{getD-take, getD-drop, length-take-le, take-all, take-add, take-append-seam, drop-at}
 use Rattle.octets.specs.Bytes.{laid, fronted}
-use Rattle.octets.proofs.Laid.{laid-next, laid-front}
-use Rattle.octets.proofs.Parts.{laid-behind}
+use Rattle.octets.proofs.Laid.{laid-next, laid-front, laid-behind}
 use Rattle.transcript.specs.Front.{between, movedOf}
 
 no-bytes : (l : List ℕ) → length l ≡ 0 → l ≡ []

@@ -1,5 +1,4 @@
 pub mod Areas
-pub mod LaidWords
 pub mod Stores
 pub mod Determined
 pub mod Literal

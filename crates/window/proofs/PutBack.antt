@@ -23,7 +23,8 @@ use Rattle.window.specs.declared.word.Pointer.the-variants.{H2bWrite, B2
 use Rattle.window.specs.Places.{placeIn, areaOf}
 use Rattle.window.specs.Words.{wordPlace, wordWhere, wordIn, interfaceIn}
 use Rattle.window.specs.PutBack.{putBack, RingChanged}
-use Rattle.window.proofs.LaidWords.{laid-beside, laid-word-beside}
+use Rattle.octets.proofs.Laid.{laid-beside}
+use Rattle.octets.proofs.Words.{laid-word-beside}
 use Rattle.window.proofs.Areas.{area-fits, ring-right}
 use Rattle.window.proofs.Stores.{ring-clear, beside}
 

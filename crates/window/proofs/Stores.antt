@@ -33,7 +33,8 @@ use Rattle.window.specs.Words.{wordPlace, hasUp, cleared, wordWhere, wor
 use Rattle.window.specs.Words.{withWord, stored, pointing, storedPointer}
 use Rattle.descriptor.proofs.Configurations.{Clear, Allowed, allowed-facts, length-bounds}
 use Rattle.window.proofs.Areas.{ring-right}
-use Rattle.window.proofs.LaidWords.{laid-word, laid-beside, laid-word-beside, word-length}
+use Rattle.octets.proofs.Laid.{laid-beside}
+use Rattle.octets.proofs.Words.{word-length, laid-word, laid-word-beside}
 
 -- clearing what is reserved once is enough
 cleared-twice : (p : Pointer) (w : Word) → cleared p (cleared p w) ≡ cleared p w
