@@ -7,11 +7,11 @@ use Prim.Native.Nat.{ℕ, suc, _*_, _<_}
 use lib.Bits.{bitXor, xor-zero-r}
 use lib.Dec.{T, eqb, eqb→eq}
 use lib.ListN.{length}
+use Rattle.octets.specs.Bytes.{Below}
 use Rattle.pec.specs.Remainder.{polyStep, eightSteps, byteStep, pecFrom, pecOf}
-use Rattle.pec.specs.Sum.{plus}
-use Rattle.pec.specs.Wire.{Bytes, bitsOf, wire}
+use Rattle.pec.specs.Wire.{bitsOf, wire}
 use Rattle.pec.proofs.Fold.{poly-byte}
-use Rattle.pec.proofs.Sum.{poly-plus, eight-plus, fold-plus}
+use Rattle.pec.proofs.Sum.{plus, poly-plus, eight-plus, fold-plus}
 use Rattle.pec.proofs.Tests.{below, passed}
 use Rattle.pec.proofs.Xor.{xor-swap, xor-up}
 
@@ -63,7 +63,7 @@ byte-bits r b h =
     ∙ ap (bitXor (eightSteps r)) (from-zero b h)
     ∙ sym (eight-plus r b)
 
-pub from-bits : (s : List ℕ) (r : ℕ) → Bytes s → pecFrom r s ≡ bitsFrom r (wire s)
+pub from-bits : (s : List ℕ) (r : ℕ) → Below 256 s → pecFrom r s ≡ bitsFrom r (wire s)
 unfolding pecFrom bitsFrom wire
 from-bits [] r h = refl
 from-bits (b ∷ s) r h =
@@ -72,6 +72,6 @@ from-bits (b ∷ s) r h =
     ∙ sym (foldl-append bitStep r (bitsOf b) (wire s))
 
 -- The PEC is the remainder of the wire bits.
-pub pec-bits : (s : List ℕ) → Bytes s → pecOf s ≡ bitsFrom 0 (wire s)
+pub pec-bits : (s : List ℕ) → Below 256 s → pecOf s ≡ bitsFrom 0 (wire s)
 unfolding pecOf
 pec-bits s h = from-bits s 0 h

@@ -10,13 +10,17 @@ use lib.Bits.{bitXor, xor-lt, xor-self}
 use lib.Dec.{T, T-not, eqb}
 use lib.ListN.{length, take, getD, length-append}
 use lib.Seq.{take-suc, take-all, take-at, getD-at}
+use Rattle.octets.specs.Bytes.{Below}
 use Rattle.pec.specs.Remainder.{polyStep, eightSteps, byteStep, pecOf}
-use Rattle.pec.specs.Sum.{plus}
-use Rattle.pec.specs.Wire.{Bytes, Checked}
 use Rattle.pec.proofs.Fold.{poly-byte, pec-byte, pec-last}
-use Rattle.pec.proofs.Sum.{plus-length, plus-bytes, pec-plus}
+use Rattle.pec.proofs.Sum.{plus, plus-length, plus-bytes, pec-plus}
 use Rattle.pec.proofs.Tests.{below, passed}
 use Rattle.pec.proofs.Xor.{xor-equal}
+
+-- "Then the packet, then the PEC." The last byte is the PEC of all bytes before it.
+pub record Checked (s : List ℕ) : Type 0 where
+  pub rest : List ℕ
+  pub ends : s ≡ rest ++ (pecOf rest ∷ [])
 
 -- A list with its PEC behind it is checked.
 pub checked-made : (rest : List ℕ) → Checked (rest ++ (pecOf rest ∷ []))
@@ -73,7 +77,7 @@ checked-zero s k =
     ap pecOf (k .ends) ∙ pec-last (k .rest) (pecOf (k .rest)) ∙ ap eightSteps (xor-self (pecOf (k .rest)))
 
 -- And a list of bytes, one or more, that has the PEC 0 is checked.
-pub zero-checked : (s : List ℕ) → Bytes s → 0 < length s → pecOf s ≡ 0 → Checked s
+pub zero-checked : (s : List ℕ) → Below 256 s → 0 < length s → pecOf s ≡ 0 → Checked s
 unfolding byteStep
 zero-checked s b h e =
     let front = take (length s - 1) s in
@@ -84,7 +88,8 @@ zero-checked s b h e =
     (eight-zero (bitXor (pecOf front) end) (xor-lt 8 (pecOf front) end (pec-byte front) (b (length s - 1))) sum)))
 
 -- The one law of two lists' bitwise sum, on which both rules on wrong bits rest: it is checked if both are.
-pub checked-plus : (s t : List ℕ) → length s ≡ length t → Bytes s → Bytes t → Checked s → Checked t → Checked (plus s t)
+pub checked-plus : (s t : List ℕ) → length s ≡ length t → Below 256 s → Below 256 t → Checked s → Checked t
+    → Checked (plus s t)
 checked-plus s t e bs bt cs ct =
     zero-checked (plus s t) (plus-bytes s t bs bt)
     (omega (arith, plus-length s t e, ap length (cs .ends), length-append (cs .rest) (pecOf (cs .rest) ∷ [])))

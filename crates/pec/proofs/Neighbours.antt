@@ -9,10 +9,11 @@ use native.Mathlib.Omega.{arith}
 use lib.Bits.{bitXor}
 use lib.Dec.{T, eqb, T-not, lit<}
 use lib.ListN.{getD}
+use Rattle.octets.specs.Bytes.{Below}
 use Rattle.pec.specs.Remainder.{lowTerms, polyStep}
-use Rattle.pec.specs.Wire.{Bytes, wire, Checked}
+use Rattle.pec.specs.Wire.{wire}
 use Rattle.pec.proofs.Bitwise.{bitStep, bitsFrom, bit-byte, pec-bits}
-use Rattle.pec.proofs.Checks.{poly-zero, checked-zero}
+use Rattle.pec.proofs.Checks.{Checked, poly-zero, checked-zero}
 use Rattle.pec.proofs.Tests.{both}
 use Rattle.pec.proofs.WireBits.{Bits, wire-bits}
 
@@ -84,6 +85,6 @@ heard zero (suc n) (suc (suc x) ∷ xs) h b f z e k = absurd (omega (arith, b 0)
 
 -- A checked list of bytes whose wire bits are zero but for eight neighbours at most has zeros alone: the polynomial has
 -- degree 8 and a constant term, so what the first one leaves is undone by no seven bits, and by no zeros after them.
-pub zeros-alone : (s : List ℕ) → Bytes s → Checked s → (from n : ℕ) → n ≤ 8
+pub zeros-alone : (s : List ℕ) → Below 256 s → Checked s → (from n : ℕ) → n ≤ 8
     → ((k : ℕ) → k < from → getD (wire s) k 0 ≡ 0) → ZeroFrom (from + n) (wire s) → (k : ℕ) → getD (wire s) k 0 ≡ 0
 zeros-alone s b c from n h f z = heard from n (wire s) h (wire-bits s) f z (sym (pec-bits s b) ∙ checked-zero s c)

@@ -5,14 +5,14 @@ use mathlib.Core.Path.{_≡_, ap, _∙_}
 use mathlib.Core.List.{List}
 use Prim.Native.Nat.{ℕ, _%_}
 use native.Mathlib.Omega.{arith}
-use Rattle.pec.specs.Sum.{plus}
-use Rattle.pec.specs.Wire.{Bytes, wire, Checked, differences, OddChange}
-use Rattle.pec.proofs.Checks.{checked-plus}
+use Rattle.octets.specs.Bytes.{Below}
+use Rattle.pec.specs.Wire.{wire, differences, OddChange}
+use Rattle.pec.proofs.Checks.{Checked, checked-plus}
 use Rattle.pec.proofs.Parity.{ones, checked-even, ones-plus}
-use Rattle.pec.proofs.Sum.{plus-bytes}
+use Rattle.pec.proofs.Sum.{plus, plus-bytes}
 use Rattle.pec.proofs.WireBits.{wire-bits, wire-plus}
 
-pub odd : (s t : List ℕ) → Bytes s → Bytes t → Checked s → OddChange s t → Checked t → ⊥
+pub odd : (s t : List ℕ) → Below 256 s → Below 256 t → Checked s → OddChange s t → Checked t → ⊥
 odd s t bs bt cs ch ct =
     let sum : Checked (plus s t) = checked-plus s t (ch .lengths) bs bt cs ct in
     let even : ones (wire (plus s t)) % 2 ≡ 0 = checked-even (plus s t) (plus-bytes s t bs bt) sum in

@@ -8,12 +8,13 @@ use native.Mathlib.Nat.{zero-add}
 use native.Mathlib.Omega.{arith}
 use lib.Bits.{bitXor}
 use lib.Dec.{T, eqb, eqb→eq, lit<}
+use Rattle.octets.specs.Bytes.{Below}
 use Rattle.octets.specs.Choice.{pick}
 use Rattle.pec.specs.Remainder.{polyStep}
-use Rattle.pec.specs.Sum.{plus}
-use Rattle.pec.specs.Wire.{Bytes, bitsOf, wire, Checked, differences}
+use Rattle.pec.specs.Wire.{bitsOf, wire, differences}
 use Rattle.pec.proofs.Bitwise.{bitStep, bitsFrom, bit-byte, pec-bits}
-use Rattle.pec.proofs.Checks.{checked-zero}
+use Rattle.pec.proofs.Checks.{Checked, checked-zero}
+use Rattle.pec.proofs.Sum.{plus}
 use Rattle.pec.proofs.Tests.{below, passed-two}
 use Rattle.pec.proofs.WireBits.{Bits, wire-bits}
 
@@ -46,7 +47,7 @@ parity (x ∷ xs) r h b =
 
 -- A list of bytes that ends with its own PEC has an even number of one bits: it is a multiple of x^8 + x^2 + x + 1, so
 -- x + 1, which divides that (four terms: 0 at x = 1), divides the list too, and its ones cancel at x = 1.
-pub checked-even : (s : List ℕ) → Bytes s → Checked s → ones (wire s) % 2 ≡ 0
+pub checked-even : (s : List ℕ) → Below 256 s → Checked s → ones (wire s) % 2 ≡ 0
 unfolding ones bitsOf
 checked-even s b c =
     ap (λ (n : ℕ). n % 2) (sym (zero-add (ones (wire s))))

@@ -1,4 +1,5 @@
--- The bitwise sum of two lists: its PEC is the sum of their PECs, its places are theirs summed, and it is as long.
+-- The bitwise sum of two lists, 1 where the two differ, so that what was changed in a frame can be spoken of by itself:
+-- its PEC is the sum of their PECs, its places are theirs summed, and it is as long.
 -- Assumes nothing.
 use mathlib.Core.Path.{_≡_, refl, ap, ap₂, _∙_}
 use mathlib.Core.List.{List, [], _∷_, foldl}
@@ -7,11 +8,17 @@ use native.Mathlib.Omega.{arith}
 use lib.Bits.{bitXor, xor-mod, xor-lt}
 use lib.Dec.{lit<}
 use lib.ListN.{length, getD}
+use Rattle.octets.specs.Bytes.{Below}
 use Rattle.pec.specs.Remainder.{lowTerms, polyStep, eightSteps, byteStep, pecFrom, pecOf}
-use Rattle.pec.specs.Sum.{plus}
-use Rattle.pec.specs.Wire.{Bytes}
 use Rattle.pec.proofs.Xor.{xor-swap, xor-up, xor-bit}
 
+-- As far as both lists go.
+unfoldable pub plus : List ℕ → List ℕ → List ℕ
+plus [] t = []
+plus (a ∷ s) [] = []
+plus (a ∷ s) (b ∷ t) = bitXor a b ∷ plus s t
+
+-- It takes sums to sums.
 abbrev Linear : (ℕ → ℕ) → Type 0
 Linear f = (a b : ℕ) → f (bitXor a b) ≡ bitXor (f a) (f b)
 
@@ -78,7 +85,7 @@ plus-length (a ∷ s) [] e = absurd (omega arith)
 plus-length (a ∷ s) (b ∷ t) e = ap suc (plus-length s t (omega arith))
 
 -- and a sum of bytes is one of bytes.
-pub plus-bytes : (s t : List ℕ) → Bytes s → Bytes t → Bytes (plus s t)
+pub plus-bytes : (s t : List ℕ) → Below 256 s → Below 256 t → Below 256 (plus s t)
 unfolding plus
 plus-bytes [] t hs ht i = lit< tt
 plus-bytes (a ∷ s) [] hs ht i = lit< tt

@@ -9,7 +9,7 @@ use native.Mathlib.Nat.{not-suc-le-zero}
 use native.Mathlib.Decide.{ℕ-discrete}
 use native.Mathlib.Omega.{arith}
 use lib.Dec.{T, ltb, ltb→lt, lit<}
-use Rattle.pec.specs.Wire.{Bytes}
+use Rattle.octets.specs.Bytes.{Below}
 
 -- Two tests that are passed together are passed each.
 pub both : (a b : Bool) → T (a && b) → T a × T b
@@ -36,7 +36,7 @@ abbrev pub allBytes : List ℕ → Bool
 allBytes [] = true
 allBytes (b ∷ s) = ltb b 256 && allBytes s
 
-pub all-bytes : (s : List ℕ) → T (allBytes s) → Bytes s
+pub all-bytes : (s : List ℕ) → T (allBytes s) → Below 256 s
 all-bytes [] t i = lit< tt
 all-bytes (b ∷ s) t zero = ltb→lt b 256 (both (ltb b 256) (allBytes s) t .0)
 all-bytes (b ∷ s) t (suc i) = all-bytes s (both (ltb b 256) (allBytes s) t .1) i

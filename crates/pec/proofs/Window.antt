@@ -7,17 +7,17 @@ use Prim.Native.Nat.{ℕ}
 use native.Mathlib.Omega.{arith}
 use lib.Bits.{bitXor, xor-self}
 use lib.ListN.{getD}
+use Rattle.octets.specs.Bytes.{Below}
 use Rattle.pec.specs.Remainder.{polyStep, eightSteps, byteStep, pecFrom, pecOf}
-use Rattle.pec.specs.Sum.{plus}
-use Rattle.pec.specs.Wire.{Bytes, bitsOf, wire, Checked, Change, WindowChange}
+use Rattle.pec.specs.Wire.{bitsOf, wire, Change, WindowChange}
 use Rattle.pec.proofs.Changes.{change-of}
-use Rattle.pec.proofs.Checks.{checked-made, checked-plus}
+use Rattle.pec.proofs.Checks.{Checked, checked-made, checked-plus}
 use Rattle.pec.proofs.Neighbours.{zeros-alone}
-use Rattle.pec.proofs.Sum.{plus-bytes}
+use Rattle.pec.proofs.Sum.{plus, plus-bytes}
 use Rattle.pec.proofs.WireBits.{wire-plus-at, wire-injective}
 use Rattle.pec.proofs.Xor.{xor-equal}
 
-pub window : (s t : List ℕ) → Bytes s → Bytes t → Checked s → WindowChange s t → Checked t → ⊥
+pub window : (s t : List ℕ) → Below 256 s → Below 256 t → Checked s → WindowChange s t → Checked t → ⊥
 window s t bs bt cs ch ct =
     let sum : Checked (plus s t) = checked-plus s t (ch .lengths) bs bt cs ct in
     let at : (k : ℕ) → getD (wire (plus s t)) k 0 ≡ bitXor (getD (wire s) k 0) (getD (wire t) k 0) =

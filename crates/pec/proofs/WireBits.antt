@@ -10,9 +10,9 @@ use native.Mathlib.Omega.{arith}
 use lib.Bits.{bitXor, xor-mod}
 use lib.Dec.{T, eqb, eqb→eq, lit<}
 use lib.ListN.{length, getD}
-use Rattle.pec.specs.Sum.{plus}
-use Rattle.pec.specs.Wire.{Bytes, bitsOf, wire}
-use Rattle.pec.proofs.Sum.{plus-at}
+use Rattle.octets.specs.Bytes.{Below}
+use Rattle.pec.specs.Wire.{bitsOf, wire}
+use Rattle.pec.proofs.Sum.{plus, plus-at}
 use Rattle.pec.proofs.Tests.{below, passed}
 use Rattle.pec.proofs.Xor.{xor-bit}
 
@@ -50,7 +50,8 @@ wire-append (b ∷ s) t = ap (λ (xs : List ℕ). bitsOf b ++ xs) (wire-append s
 -- A byte is the sum of what its bits stand for.
 valueOf : ℕ → ℕ
 valueOf b =
-    b / 128 % 2 * 128 + b / 64 % 2 * 64 + b / 32 % 2 * 32 + b / 16 % 2 * 16 + b / 8 % 2 * 8 + b / 4 % 2 * 4 + b / 2 % 2 * 2 + b % 2
+    b / 128 % 2 * 128 + b / 64 % 2 * 64 + b / 32 % 2 * 32 + b / 16 % 2 * 16
+    + b / 8 % 2 * 8 + b / 4 % 2 * 4 + b / 2 % 2 * 2 + b % 2
 
 valueRight : ℕ → Bool
 unfolding valueOf
@@ -65,7 +66,7 @@ unfolding valueRight
 value b h = eqb→eq (valueOf b) b (passed valueRight 256 value-test b h)
 
 -- and the same only for the same bytes.
-pub wire-injective : (s t : List ℕ) → length s ≡ length t → Bytes s → Bytes t
+pub wire-injective : (s t : List ℕ) → length s ≡ length t → Below 256 s → Below 256 t
     → ((k : ℕ) → getD (wire s) k 0 ≡ getD (wire t) k 0) → s ≡ t
 unfolding wire bitsOf valueOf
 wire-injective [] [] e h l w = refl

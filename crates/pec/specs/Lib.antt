@@ -1,4 +1,3 @@
 pub mod Remainder
-pub mod Sum
 pub mod Table
 pub mod Wire

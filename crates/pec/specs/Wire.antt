@@ -1,4 +1,4 @@
--- What a frame is on the wire, what a checked one is, and which changes of its wire bits the PEC finds.
+-- What a frame is on the wire, and which changes of its wire bits the PEC finds.
 -- Document 01, "SMBus frame"; demand 3; document 02, #113.
 -- Assumes nothing.
 use mathlib.Core.Path.{_≡_}
@@ -6,13 +6,7 @@ use mathlib.Core.List.{List, [], _∷_, _++_}
 use Prim.Native.Nat.{ℕ, _+_, _/_, _%_, _≤_, _<_}
 use lib.Dec.{eqb}
 use lib.ListN.{length, getD}
-use Rattle.octets.specs.Bytes.{Below}
 use Rattle.octets.specs.Choice.{pick}
-use Rattle.pec.specs.Remainder.{pecOf}
-
--- A list of bytes, and no larger numbers.
-abbrev pub Bytes : List ℕ → Type 0
-Bytes s = Below 256 s
 
 -- "highest bit of each byte first"
 unfoldable pub bitsOf : ℕ → List ℕ
@@ -23,11 +17,6 @@ bitsOf b =
 unfoldable pub wire : List ℕ → List ℕ
 wire [] = []
 wire (b ∷ s) = bitsOf b ++ wire s
-
--- "Then the packet, then the PEC." The last byte is the PEC of all bytes before it.
-pub record Checked (s : List ℕ) : Type 0 where
-  pub rest : List ℕ
-  pub ends : s ≡ rest ++ (pecOf rest ∷ [])
 
 -- One or more bits changed, all within so many neighbouring bits in wire order: t is s so changed.
 pub record Change (width : ℕ) (s t : List ℕ) : Type 0 where

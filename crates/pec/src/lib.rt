@@ -4,6 +4,28 @@ ghost use lib.Dec.{T};
 ghost use Rattle.pec.specs.Table.{tableTest};
 ghost use Rattle.pec.specs.Remainder.{pecOf};
 
+// The check byte of s: the remainder of all its bytes.
+pub fn pec(s: &[u8]) -> u8
+    ensures { λ r. ⌜ r ≡ pecOf (now (s .entry)) ⌝ }
+{
+    // Taken once, before the loop: a constant that is indexed in the loop would be built anew at every byte.
+    let table = remainders();
+    let mut r: u8 = 0;
+    let mut i = 0;
+    while i < s.len() {
+        r = table[(r ^ s[i]) as usize];
+        i += 1;
+    }
+    r
+}
+
+// The table as a value, with the one test that ties each entry to eight polynomial steps.
+fn remainders() -> [u8; 256]
+    ensures { λ r. ⌜ T (tableTest r) ⌝ }
+{
+    TABLE
+}
+
 // At each place, eight steps of the division from there.
 const TABLE: [u8; 256] = [
     0x00,
@@ -263,25 +285,3 @@ const TABLE: [u8; 256] = [
     0xF4,
     0xF3,
 ];
-
-// The table as a value, with the one test that ties each entry to eight polynomial steps.
-fn remainders() -> [u8; 256]
-    ensures { λ r. ⌜ T (tableTest r) ⌝ }
-{
-    TABLE
-}
-
-// The check byte of s: the remainder of all its bytes.
-pub fn pec(s: &[u8]) -> u8
-    ensures { λ r. ⌜ r ≡ pecOf (now (s .entry)) ⌝ }
-{
-    // Taken once, before the loop: a constant that is indexed in the loop would be built anew at every byte.
-    let table = remainders();
-    let mut r: u8 = 0;
-    let mut i = 0;
-    while i < s.len() {
-        r = table[(r ^ s[i]) as usize];
-        i += 1;
-    }
-    r
-}

@@ -6,10 +6,10 @@ use Prim.Native.Nat.{ℕ, zero, suc, _+_, _-_, _*_, _/_, _≤_, _<_}
 use native.Mathlib.Omega.{arith}
 use lib.ListN.{length, getD, take, length-take, length-drop}
 use lib.Seq.{take-add, take-suc, take-all}
+use Rattle.octets.specs.Bytes.{Below}
 use Rattle.octets.proofs.Below.{below-nil, below-cons, below-append}
 use Rattle.octets.proofs.Words.{four}
 use Rattle.pec.specs.Remainder.{pecOf}
-use Rattle.pec.specs.Wire.{Bytes}
 use Rattle.pec.proofs.Fold.{pec-byte}
 use Rattle.smbus.specs.Layout.{headOf, coveredOf, frameOf}
 use Rattle.smbus.specs.Reading.{endOf, beforeEnd, partOf}
@@ -18,7 +18,7 @@ use Rattle.smbus.proofs.Readings.{Good}
 -- A frame is made of bytes where its packet is and both addresses are up to 127,
 module _ (destination source : ℕ) (packet : List ℕ) (to : destination ≤ 127) (by : source ≤ 127)
     (long : length packet ≤ 250) where
-  head-bytes : Bytes (headOf destination source packet)
+  head-bytes : Below 256 (headOf destination source packet)
   unfolding headOf
   head-bytes zero = omega arith
   head-bytes (suc zero) = omega arith
@@ -30,14 +30,14 @@ module _ (destination source : ℕ) (packet : List ℕ) (to : destination ≤ 12
   covered = coveredOf destination source packet
 
   -- with any byte where the PEC stands,
-  pub ended-bytes : (end : ℕ) → end < 256 → Bytes packet → Bytes (covered ++ (end ∷ []))
+  pub ended-bytes : (end : ℕ) → end < 256 → Below 256 packet → Below 256 (covered ++ (end ∷ []))
   unfolding coveredOf
   ended-bytes end h b =
       below-append covered (end ∷ []) (below-append (headOf destination source packet) packet head-bytes b)
       (below-cons end [] h below-nil)
 
   -- and with the PEC itself.
-  pub frame-bytes : Bytes packet → Bytes (frameOf destination source packet)
+  pub frame-bytes : Below 256 packet → Below 256 (frameOf destination source packet)
   unfolding frameOf
   frame-bytes = ended-bytes (pecOf covered) (pec-byte covered)
 

@@ -8,8 +8,9 @@ use Prim.Native.Nat.{ℕ, _+_, _%_, _≤_, _<_}
 use lib.Bits.{bitXor, xor-lt}
 use lib.Dec.{T, eqb, eqb→eq, lit<}
 use lib.ListN.{length, getD}
+use Rattle.octets.specs.Bytes.{Below}
 use Rattle.pec.specs.Remainder.{polyStep, eightSteps, byteStep, pecFrom, pecOf}
-use Rattle.pec.specs.Wire.{Bytes, bitsOf, wire, differences, OddChange}
+use Rattle.pec.specs.Wire.{bitsOf, wire, differences, OddChange}
 use Rattle.pec.proofs.Counts.{any-odd, byte-odd}
 use Rattle.pec.proofs.Fold.{pec-byte}
 use Rattle.pec.proofs.Tests.{below, passed}
@@ -115,7 +116,7 @@ module _ (destination source : ℕ) (packet : List ℕ) where
       byte-odd (coveredOf destination source packet) [] check (bitXor check 1)
       (ap (λ (n : ℕ). n % 2) (last-bit check (pec-byte (coveredOf destination source packet))))
 
-  pub wrong-pec-bytes : destination ≤ 127 → source ≤ 127 → length packet ≤ 250 → Bytes packet → Bytes wrongPec
+  pub wrong-pec-bytes : destination ≤ 127 → source ≤ 127 → length packet ≤ 250 → Below 256 packet → Below 256 wrongPec
   unfolding wrongPec
   wrong-pec-bytes to by long =
       ended-bytes destination source packet to by long (bitXor check 1)

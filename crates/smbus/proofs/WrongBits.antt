@@ -5,8 +5,9 @@ use mathlib.Core.List.{List}
 use Prim.Native.Nat.{ℕ}
 use native.Mathlib.Omega.{arith}
 use lib.Dec.{T}
-use Rattle.pec.specs.Wire.{Bytes, Checked, WindowChange, OddChange}
-use Rattle.pec.proofs.Checks.{checked-of}
+use Rattle.octets.specs.Bytes.{Below}
+use Rattle.pec.specs.Wire.{WindowChange, OddChange}
+use Rattle.pec.proofs.Checks.{Checked, checked-of}
 use Rattle.pec.proofs.Odd.{odd}
 use Rattle.pec.proofs.Tests.{allBytes, all-bytes}
 use Rattle.pec.proofs.Window.{window}
@@ -18,7 +19,7 @@ use Rattle.smbus.proofs.Readings.{Good, good}
 -- largest body.
 abbrev pub AlwaysRefused : (List ℕ → List ℕ → Type 0) → Type 0
 AlwaysRefused Kind =
-    (frame changed : List ℕ) → Bytes frame → Bytes changed → Kind frame changed
+    (frame changed : List ℕ) → Below 256 frame → Below 256 changed → Kind frame changed
     → (most own : ℕ) → refusalOf most frame own ≡ 0
     → (most′ own′ : ℕ) → refusalOf most′ changed own′ ≡ 0 → ⊥
 
@@ -30,7 +31,7 @@ good-checked most frame own e =
 
 -- A change that leaves no checked list checked is of such a kind.
 always-refused : (Kind : List ℕ → List ℕ → Type 0)
-    → ((s t : List ℕ) → Bytes s → Bytes t → Checked s → Kind s t → Checked t → ⊥)
+    → ((s t : List ℕ) → Below 256 s → Below 256 t → Checked s → Kind s t → Checked t → ⊥)
     → AlwaysRefused Kind
 always-refused Kind rule frame changed b c k most own e most′ own′ f =
     rule frame changed b c (good-checked most frame own e) k (good-checked most′ changed own′ f)

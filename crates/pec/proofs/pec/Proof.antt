@@ -22,59 +22,45 @@ Inv-loop s table r₀ i₀ r i = (i ≤ length s) × (r < 256) × (r ≡ pecOf (
 abbrev μ-loop : tie.MeasureT-loop
 μ-loop s table r₀ i₀ r i = length s - i
 
-remainders-requires : tie.Need-remainders-requires Inv-loop μ-loop
-remainders-requires c κs = search needs
-
 loop-holds : tie.Need-loop-holds Inv-loop μ-loop
 unfolding pecOf pecFrom
 loop-holds c = (search needs, lit< tt, refl)
 
-shared-slice-read-r : tie.Need-shared-slice-read-r Inv-loop μ-loop
-shared-slice-read-r c = omega arith
-
+-- a turn of the loop, where it has read a byte
 module _ (c : tie.After-shared-slice-known2 Inv-loop μ-loop) where
+  abbrev turn : tie.At-loop Inv-loop μ-loop
+  turn = c .before .before
+
   abbrev bytes : List ℕ
-  bytes = c .before .before .before .before .before .args .s .now
+  bytes = turn .before .before .before .args .s .now
+
+  abbrev table : List ℕ
+  table = turn .before .remainders .result
 
   abbrev r : ℕ
-  r = c .before .before .loop .r
+  r = turn .loop .r
 
   abbrev byte : ℕ
-  byte = getD bytes (c .before .before .loop .i) 0
+  byte = getD bytes (turn .loop .i) 0
 
   -- The place that the table is read at is a byte.
   place : bitXor r byte < 256
-  place =
-      xor-lt 8 r byte (c .before .before .loop .inv .1)
-      (omega (arith, c .shared-slice-known2 .given (c .before .before .loop .i)))
+  place = xor-lt 8 r byte (turn .loop .inv .1) (omega (arith, c .shared-slice-known2 .given (turn .loop .i)))
 
   -- What stands there is the remainder with one byte more.
-  stepped : getD (c .before .before .before .remainders .result) (bitXor r byte) 0 ≡ byteStep r byte
+  stepped : getD table (bitXor r byte) 0 ≡ byteStep r byte
   unfolding byteStep
   stepped =
-      entry (c .before .before .before .remainders .result) (c .before .before .before .remainders .ensures)
-      (bitXor r byte)
-      (omega (arith, place, c .before .before .before .remainders .ok))
-
-cast-r : tie.Need-cast-r Inv-loop μ-loop
-cast-r c = omega (arith, place c)
-
-array-read-r : tie.Need-array-read-r Inv-loop μ-loop
-array-read-r c = place c
-
-add-i : tie.Need-add-i Inv-loop μ-loop
-add-i c = omega arith
-
-loop-less : tie.Need-loop-less Inv-loop μ-loop
-loop-less c = omega arith
+      entry table (turn .before .remainders .ensures) (bitXor r byte)
+      (omega (arith, place, turn .before .remainders .ok))
 
 loop-again : tie.Need-loop-again Inv-loop μ-loop
 loop-again c = (
   omega arith,
   rw (stepped c) (byte-byte (r c) (byte c)),
   stepped c
-      ∙ ap (λ (x : ℕ). byteStep x (byte c)) (c .before .before .loop .inv .2)
-      ∙ sym (pec-next (bytes c) (c .before .before .loop .i) (omega arith)),
+      ∙ ap (λ (x : ℕ). byteStep x (byte c)) (turn c .loop .inv .2)
+      ∙ sym (pec-next (bytes c) (turn c .loop .i) (omega arith)),
 )
 
 returns : tie.Need-returns Inv-loop μ-loop
@@ -88,12 +74,12 @@ pec-spec =
     (tie.spec
     Inv-loop
     μ-loop
-    remainders-requires
+    (λ c κs. search needs)
     loop-holds
-    shared-slice-read-r
-    cast-r
-    array-read-r
-    add-i
-    loop-less
+    (λ c. search needs)
+    (λ c. omega (arith, place c))
+    (λ c. place c)
+    (λ c. search needs)
+    (λ c. search needs)
     loop-again
     returns)
