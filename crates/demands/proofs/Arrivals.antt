@@ -25,7 +25,7 @@ use Rattle.pcc.specs.Layout.{regionFor}
 use Rattle.pcc.specs.Reading as pcc
 use Rattle.pcc.specs.Writing as regions
 use Rattle.pcc.proofs.RoundTrip as pcc-back
-use Rattle.pcc.proofs.Bytes.{every-bytes}
+use Rattle.pcc.proofs.Layouts.{every-bytes}
 use Rattle.mmbi.specs.Interface.{stateOf, mayRead}
 use Rattle.mmbi.specs.declared.interface.Flags.{Flags}
 use Rattle.mmbi.specs.Pointers.{lengthRight}

@@ -33,10 +33,10 @@ pub record SameAnswers (most id : ℕ) (a b : List ℕ) : Type 0 where
   pub flags : notifyOf most a id ≡ notifyOf most b id
 
 -- the same four bytes make the same word
-word-same : (a b : List ℕ) (at : ℕ) → ((k : ℕ) → k < 4 → getD a (at + k) 0 ≡ getD b (at + k) 0)
+four-same : (a b : List ℕ) (at : ℕ) → ((k : ℕ) → k < 4 → getD a (at + k) 0 ≡ getD b (at + k) 0)
     → wordAt lowFirst a at ≡ wordAt lowFirst b at
 unfolding wordAt
-word-same a b at e = cc (simp add-zero at (e 0 (lit< tt)), e 1 (lit< tt), e 2 (lit< tt), e 3 (lit< tt))
+four-same a b at e = cc (simp add-zero at (e 0 (lit< tt)), e 1 (lit< tt), e 2 (lit< tt), e 3 (lit< tt))
 
 -- bit 0 of a word is bit 0 of its lowest byte
 low-bit : (s : List ℕ) → wordAt lowFirst s 4 % 2 ≡ getD s 4 0 % 2
@@ -45,13 +45,13 @@ low-bit s = omega arith
 
 module _ {most id : ℕ} {a b : List ℕ} (same : Alike most id a b) where
   signatures-same : wordAt lowFirst a 0 ≡ wordAt lowFirst b 0
-  signatures-same = word-same a b 0 (λ k h. same .signatures (0 + k) (omega arith))
+  signatures-same = four-same a b 0 (λ k h. same .signatures (0 + k) (omega arith))
 
   lengths-same : wordAt lowFirst a 8 ≡ wordAt lowFirst b 8
-  lengths-same = word-same a b 8 (λ k h. same .up-to-packet (8 + k) (omega arith) (omega arith))
+  lengths-same = four-same a b 8 (λ k h. same .up-to-packet (8 + k) (omega arith) (omega arith))
 
   commands-same : wordAt lowFirst a 12 ≡ wordAt lowFirst b 12
-  commands-same = word-same a b 12 (λ k h. same .up-to-packet (12 + k) (omega arith) (omega arith))
+  commands-same = four-same a b 12 (λ k h. same .up-to-packet (12 + k) (omega arith) (omega arith))
 
   numbers-same : refusalOf most a id ≡ refusalOf most b id
   unfolding refusalOf
@@ -65,18 +65,16 @@ module _ {most id : ℕ} {a b : List ℕ} (same : Alike most id a b) where
   unfolding notifyOf
   flags-same = rw (numbers-same, low-bit a, low-bit b, same .bit-0)
 
+  abbrev size : ℕ
+  size = sizeOf most a id
+
   packets-same : packetOf most a id ≡ packetOf most b id
   packets-same =
-      ext-getD 0 (partOf a (sizeOf most a id)) (partOf b (sizeOf most a id))
-      (simp (length-take, length-drop) (ap (λ (n : ℕ). min (sizeOf most a id) (n - 16)) (same .lengths)))
+      ext-getD 0 (partOf a size) (partOf b size)
+      (simp (length-take, length-drop) (ap (λ (n : ℕ). min size (n - 16)) (same .lengths)))
       (λ i h.
-      let k : i < sizeOf most a id = omega (arith, simp length-take at h) in
-      rw (
-        getD-take (sizeOf most a id) (drop 16 a) i 0 k,
-        getD-take (sizeOf most a id) (drop 16 b) i 0 k,
-        getD-drop 16 a i 0,
-        getD-drop 16 b i 0,
-      )
+      let k : i < size = omega (arith, simp length-take at h) in
+      rw (getD-take size (drop 16 a) i 0 k, getD-take size (drop 16 b) i 0 k, getD-drop 16 a i 0, getD-drop 16 b i 0)
       (same .up-to-packet (16 + i) (omega arith) (omega arith)))
       ∙ ap (partOf b) sizes-same
 

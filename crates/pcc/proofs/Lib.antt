@@ -3,7 +3,6 @@ pub mod Writings
 pub mod Answers
 pub mod RoundTrip
 pub mod Layouts
-pub mod Bytes
 pub mod Ignored
 pub mod Literal
 pub mod Order

@@ -16,7 +16,7 @@ use Rattle.mctp.specs.Packet.{bodyRight, sizeRight}
 use Rattle.pcc.specs.Layout.{signatureOf, flagsOf, lengthOf, command, regionOf, regionFor}
 use Rattle.pcc.specs.Reading.{refusalOf, sizeOf, partOf, packetOf, notifyOf}
 use Rattle.pcc.specs.Writing.{writeRefusal, writtenOf}
-use Rattle.pcc.proofs.Readings.{Good, good-number, good-size}
+use Rattle.pcc.proofs.Readings.{Good, of-good, good-size}
 use Rattle.pcc.proofs.Writings as writing
 
 flags-below : (b : Bool) → flagsOf b < 2 ^ 32
@@ -27,50 +27,49 @@ flags-bit : (b : Bool) → eqb (flagsOf b % 2) 1 ≡ b
 flags-bit true = refl
 flags-bit false = refl
 
--- a list that starts with a front
+-- a region that starts with a packet's front
 module _ (id : ℕ) (notify : Bool) (packet rest : List ℕ) where
-  front-length : length (regionOf id notify packet ++ rest) ≡ 16 + length packet + length rest
-  unfolding regionOf wordBytes
-  front-length = simp length-append (omega arith)
+  abbrev region : List ℕ
+  region = regionOf id notify packet ++ rest
 
-  word-0 : id ≤ 255 → wordAt lowFirst (regionOf id notify packet ++ rest) 0 ≡ signatureOf id
+  all : length region ≡ 16 + length packet + length rest
+  unfolding regionOf wordBytes
+  all = simp length-append (omega arith)
+
+  word-0 : id ≤ 255 → wordAt lowFirst region 0 ≡ signatureOf id
   unfolding regionOf wordBytes wordAt
   word-0 h = word-back lowFirst (signatureOf id) rest (omega arith)
 
-  word-4 : wordAt lowFirst (regionOf id notify packet ++ rest) 4 ≡ flagsOf notify
+  word-4 : wordAt lowFirst region 4 ≡ flagsOf notify
   unfolding regionOf wordBytes wordAt
   word-4 = word-back lowFirst (flagsOf notify) rest (flags-below notify)
 
-  word-8 : length packet ≤ 250 → wordAt lowFirst (regionOf id notify packet ++ rest) 8 ≡ lengthOf (length packet)
+  word-8 : length packet ≤ 250 → wordAt lowFirst region 8 ≡ lengthOf (length packet)
   unfolding regionOf wordBytes wordAt
   word-8 h = word-back lowFirst (lengthOf (length packet)) rest (omega arith)
 
-  word-12 : wordAt lowFirst (regionOf id notify packet ++ rest) 12 ≡ command
+  word-12 : wordAt lowFirst region 12 ≡ command
   unfolding regionOf wordBytes wordAt
   word-12 = refl
 
-  part-16 : partOf (regionOf id notify packet ++ rest) (length packet) ≡ packet
+  part-16 : partOf region (length packet) ≡ packet
   unfolding regionOf wordBytes
   part-16 = take-append-seam packet rest
 
   module _ (most : ℕ) (w : writing.Good most (16 + length packet + length rest) id (length packet)) where
-    eight : wordAt lowFirst (regionOf id notify packet ++ rest) 8 ≡ lengthOf (length packet)
-    eight = word-8 (omega (arith, tests))
+    pub front-good : Good most region id
+    front-good = omega (arith, all, word-0 (w .subspace), word-12, word-8 (omega arith))
 
-    pub front-good : Good most (regionOf id notify packet ++ rest) id
-    front-good =
-        omega (arith, tests, front-length, word-0 (w .subspace), word-12, eight)
+    pub front-number : refusalOf most region id ≡ 0
+    front-number = of-good most region id front-good
 
-    pub front-number : refusalOf most (regionOf id notify packet ++ rest) id ≡ 0
-    front-number = good-number most (regionOf id notify packet ++ rest) id front-good
-
-    pub front-packet : packetOf most (regionOf id notify packet ++ rest) id ≡ packet
+    pub front-packet : packetOf most region id ≡ packet
     front-packet =
-        let size : sizeOf most (regionOf id notify packet ++ rest) id ≡ length packet =
-        omega (arith, good-size most (regionOf id notify packet ++ rest) id front-number, eight) in
+        let size : sizeOf most region id ≡ length packet =
+        omega (arith, good-size most region id front-number, word-8 (omega arith)) in
         rw size part-16
 
-    pub front-notify : notifyOf most (regionOf id notify packet ++ rest) id ≡ notify
+    pub front-notify : notifyOf most region id ≡ notify
     unfolding notifyOf
     front-notify = rw (front-number, word-4) (flags-bit notify)
 
@@ -86,8 +85,7 @@ module _ (most : ℕ) (region : List ℕ) (id : ℕ) (notify : Bool) (packet : L
 
   room : writing.Good most (16 + length packet + length rest) id (length packet)
   unfolding regionOf wordBytes rest
-  room =
-      let w = writing.good most (length region) id (length packet) allowed in simp length-drop (omega (arith, tests))
+  room = let w = writing.good most (length region) id (length packet) allowed in simp length-drop (omega arith)
 
   pub back-number : refusalOf most (writtenOf most region id notify packet) id ≡ 0
   back-number = rw whole (front-number id notify packet rest most room)
@@ -101,27 +99,24 @@ module _ (most : ℕ) (region : List ℕ) (id : ℕ) (notify : Bool) (packet : L
 -- "Every packet of 5 to 68 bytes has a good arrival on each path", here of the least region that holds it
 module _ (most id : ℕ) (notify : Bool) (packet : List ℕ) (body : bodyRight most ≡ true) (subspace : id ≤ 255)
     (sized : sizeRight most (length packet) ≡ true) where
-  zeros : List ℕ
+  abbrev zeros : List ℕ
   zeros = replicate (84 - (16 + length packet)) 0
 
   fitting : writing.Good most (16 + length packet + length zeros) id (length packet)
-  unfolding zeros
   fitting = simp length-replicate (omega (arith, tests))
 
   pub every-length : length (regionFor id notify packet) ≡ max 84 (16 + length packet)
   unfolding regionFor
-  every-length =
-      let all = front-length id notify packet (replicate (84 - (16 + length packet)) 0) in
-      omega (arith, simp length-replicate at all)
+  every-length = omega (arith, simp length-replicate at (all id notify packet zeros))
 
   pub every-number : refusalOf most (regionFor id notify packet) id ≡ 0
-  unfolding regionFor zeros
+  unfolding regionFor
   every-number = front-number id notify packet zeros most fitting
 
   pub every-packet : packetOf most (regionFor id notify packet) id ≡ packet
-  unfolding regionFor zeros
+  unfolding regionFor
   every-packet = front-packet id notify packet zeros most fitting
 
   pub every-notify : notifyOf most (regionFor id notify packet) id ≡ notify
-  unfolding regionFor zeros
+  unfolding regionFor
   every-notify = front-notify id notify packet zeros most fitting

@@ -2,7 +2,7 @@
 -- words laid one after the other.
 -- Assumes nothing.
 use mathlib.Core.Path.{_≡_, refl, sym, _∙_}
-use mathlib.Core.Bool.{Bool, true}
+use mathlib.Core.Bool.{Bool}
 use mathlib.Core.List.{List}
 use Prim.Native.Nat.{ℕ, _+_, _≤_}
 use native.Mathlib.Omega.{arith}
@@ -11,41 +11,35 @@ use lib.Dec.{eqb}
 use lib.ListN.{length}
 use Rattle.octets.specs.Bytes.{laid, fronted}
 use Rattle.octets.specs.Words.{lowFirst, wordBytes}
-use Rattle.octets.proofs.Checks.{FailsAt, Hold, answerAt, first-failing, none-failing, all-hold, tests}
+use Rattle.octets.proofs.Checks.{FailsAt, answerAt, first-failing, none-failing, all-hold, tests}
 use Rattle.octets.proofs.Laid.{laid-append, laid-front}
-use Rattle.mctp.specs.Packet.{bodyRight}
 use Rattle.pcc.specs.Layout.{signatureOf, flagsOf, lengthOf, command, regionOf}
 use Rattle.pcc.specs.Writing.{writeOrder, writeRefusal, writtenOf}
 
--- what may be written
+-- all that the number 0 says of a packet of `size` for a region of `room`
 pub record Good (most room id size : ℕ) : Type 0 where
-  pub body : bodyRight most ≡ true
+  pub least : 64 ≤ most
+  pub largest : most ≤ 246
   pub subspace : id ≤ 255
-  pub least : 5 ≤ size
-  pub greatest : size ≤ 4 + most
+  pub short : 5 ≤ size
+  pub long : size ≤ 4 + most
   pub region : 84 ≤ room
   pub held : 16 + size ≤ room
 
 module _ (most room id size : ℕ) where
-  -- the number of the check at place i, where it is the first that fails
-  pub refused-at : (i : ℕ) → FailsAt (writeOrder most room id size) i
+  pub unwritten-at : (i : ℕ) → FailsAt (writeOrder most room id size) i
       → writeRefusal most room id size ≡ answerAt (writeOrder most room id size) 0 i
   unfolding writeRefusal
-  refused-at = first-failing (writeOrder most room id size) 0
+  unwritten-at = first-failing (writeOrder most room id size) 0
 
-  -- 0 where none fails
-  pub none-refused : Hold (writeOrder most room id size) → writeRefusal most room id size ≡ 0
+  pub of-good : Good most room id size → writeRefusal most room id size ≡ 0
   unfolding writeRefusal
-  none-refused = none-failing (writeOrder most room id size) 0
+  of-good g = none-failing (writeOrder most room id size) 0 (omega (arith, tests))
 
-  -- what may be written, fact by fact
   pub good : writeRefusal most room id size ≡ 0 → Good most room id size
   unfolding writeRefusal
-  good e = let h = all-hold (λ n. eqb n 0) (writeOrder most room id size) 0 refl (eq-eqb _ 0 e) in omega (arith, tests)
-
-  -- and those facts are enough
-  pub good-number : Good most room id size → writeRefusal most room id size ≡ 0
-  good-number g = none-refused (omega (arith, tests))
+  good e =
+      let hold = all-hold (λ n. eqb n 0) (writeOrder most room id size) 0 refl (eq-eqb _ 0 e) in omega (arith, tests)
 
 module _ (region packet : List ℕ) (id : ℕ) (notify : Bool) where
   -- the words and the packet laid one after the other make the front

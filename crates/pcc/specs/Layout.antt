@@ -24,7 +24,7 @@ abbrev pub command : ℕ
 command = 0x5054_434D
 
 -- the front of a region with these flags: the four words, and "the packet starts at 16"
-abbrev pub regionWith : ℕ → ℕ → List ℕ → List ℕ
+abbrev pub regionWith : (id flags : ℕ) (packet : List ℕ) → List ℕ
 regionWith id flags packet =
     wordBytes lowFirst (signatureOf id)
     ++ (wordBytes lowFirst flags
@@ -33,9 +33,9 @@ regionWith id flags packet =
     ++ packet)))
 
 -- as it is written
-unfoldable pub regionOf : ℕ → Bool → List ℕ → List ℕ
+unfoldable pub regionOf : (id : ℕ) (notify : Bool) (packet : List ℕ) → List ℕ
 regionOf id notify packet = regionWith id (flagsOf notify) packet
 
 -- a region for any packet: its front, and zeros up to the least size
-unfoldable pub regionFor : ℕ → Bool → List ℕ → List ℕ
+unfoldable pub regionFor : (id : ℕ) (notify : Bool) (packet : List ℕ) → List ℕ
 regionFor id notify packet = regionOf id notify packet ++ replicate (84 - (16 + length packet)) 0

@@ -1,13 +1,14 @@
 -- `pcc::reading::read_within` meets its contract: at each return the check that failed first, or none.
 -- Assumes nothing.
-use mathlib.Core.Path.{_≡_, refl, sym, _∙_}
+use mathlib.Core.Path.{_≡_, sym, _∙_}
 use mathlib.Core.Bool.{true}
 use native.Mathlib.Omega.{arith}
 use borrow.Author.Tests.{not-true, not-false}
 use Rattle.octets.proofs.Checks.{tests}
 use Rattle.mctp.specs.declared.refusal.Refusal.the-variants.{Setup, Room, Size, Command, Signature}
 use Rattle.mctp.specs.Packet.{bodyRight}
-use Rattle.pcc.proofs.Answers.{says-refused, says-packet}
+use Rattle.pcc.proofs.Readings.{refused-at}
+use Rattle.pcc.proofs.Answers.{says-refused, says-good}
 use borrow.Author.Needs.{needs}
 use Rattle.pcc.proofs.reading.read_within.Statement.{statement}
 use Rattle.pcc.proofs.reading.read_within.Tie as tie
@@ -20,40 +21,50 @@ abbrev past : tie.Else5 → tie.Else1
 past c = c .before .before .before .before .before .before
 
 returns : tie.Need-returns
-returns c = says-refused _ _ _ Setup 0 refl (sym (c .before .body-right .ensures) ∙ not-true _ (c .if1 .taken))
+returns c =
+    let b = sym (c .before .body-right .ensures) ∙ not-true _ (c .if1 .taken) in
+    says-refused _ _ _ Setup (refused-at _ _ _ 0 b)
 
 returns-2 : tie.Need-returns-2
-returns-2 c = let b = body (c .before) in says-refused _ _ _ Setup 1 refl (omega (arith, tests))
+returns-2 c =
+    let b = body (c .before) in
+    says-refused _ _ _ Setup (refused-at _ _ _ 1 (omega (arith, tests)))
 
 returns-3 : tie.Need-returns-3
-returns-3 c = let b = body (c .before .before) in says-refused _ _ _ Room 2 refl (omega (arith, tests))
+returns-3 c =
+    let b = body (c .before .before) in
+    says-refused _ _ _ Room (refused-at _ _ _ 2 (omega (arith, tests)))
 
 returns-4 : tie.Need-returns-4
 returns-4 c =
-    let b = body (c .before .before .before .before) in says-refused _ _ _ Signature 3 refl (omega (arith, tests))
+    let b = body (c .before .before .before .before) in
+    says-refused _ _ _ Signature (refused-at _ _ _ 3 (omega (arith, tests)))
 
 returns-5 : tie.Need-returns-5
 returns-5 c =
     let b = body (c .before .before .before .before .before .before) in
-    says-refused _ _ _ Command 4 refl (omega (arith, tests))
+    says-refused _ _ _ Command (refused-at _ _ _ 4 (omega (arith, tests)))
 
 returns-6 : tie.Need-returns-6
 returns-6 c =
-    let b = body (past (c .before .before)) in says-refused _ _ _ Size 5 refl (omega (arith, tests))
+    let b = body (past (c .before .before)) in
+    says-refused _ _ _ Size (refused-at _ _ _ 5 (omega (arith, tests)))
 
 returns-7 : tie.Need-returns-7
 returns-7 c =
-    let b = body (past (c .before .before .before)) in says-refused _ _ _ Size 5 refl (omega (arith, tests))
+    let b = body (past (c .before .before .before)) in
+    says-refused _ _ _ Size (refused-at _ _ _ 5 (omega (arith, tests)))
 
 returns-8 : tie.Need-returns-8
 returns-8 c =
-    let b = body (past (c .before .before .before .before)) in says-refused _ _ _ Size 6 refl (omega (arith, tests))
+    let b = body (past (c .before .before .before .before)) in
+    says-refused _ _ _ Size (refused-at _ _ _ 6 (omega (arith, tests)))
 
 returns-9 : tie.Need-returns-9
 returns-9 c =
     let length = c .before .before .before .before .word-low-first3 .ensures in
     let b = body (past (c .before .before .before .before .before)) in
-    rw (length, c .word-low-first4 .ensures) (says-packet _ _ _ (omega (arith, tests)))
+    rw (length, c .word-low-first4 .ensures) (says-good _ _ _ (omega (arith, tests)))
 
 pub read-within-spec : {M : Type 1} → statement M
 read-within-spec =

@@ -4,7 +4,6 @@ use mathlib.Core.Path.{_≡_, ap, sym, _∙_}
 use Prim.Native.Nat.{ℕ, _≤_}
 use native.Mathlib.Omega.{arith}
 use lib.ListN.{length}
-use Rattle.octets.proofs.Checks.{tests}
 use Rattle.mctp.specs.declared.refusal.Refusal.{Refusal}
 use Rattle.mctp.specs.declared.refusal.Outcome.{Outcome}
 use Rattle.mctp.specs.declared.refusal.Outcome.the-variants.{Refused}
@@ -28,7 +27,7 @@ refused {why = why} told is =
     let e = sym (ap outcomeNumber is) ∙ told in (e, omega (arith, number-positive why))
 
 fill-requires : tie.Need-fill-requires
-fill-requires c κs = let g = good _ _ _ _ (may (c .before)) in omega (arith, tests)
+fill-requires c κs = let g = good _ _ _ _ (may (c .before)) in omega arith
 
 returns : tie.Need-returns
 returns c =
