@@ -90,11 +90,11 @@ fn turn(
     let end = filled.end;
     let failed = filled.failed;
     let drained = drain(before, memory, &input[0..end], output, earlier);
-    let state = drained.state;
+    let after = drained.state;
     let sent = drained.sent;
     let rest = transcript::to_front(input, drained.read, end);
     Turned {
-        state: state,
+        state: after,
         held: rest,
         sent: sent,
         failed: failed,

@@ -1,7 +1,7 @@
 -- The walk from the front: step by step, over whole records, and of a list that comes in pieces.
 -- Assumes nothing.
 use mathlib.Core.Path.{_≡_, refl, ap, sym, subst, _∙_}
-use mathlib.Core.List.{List, [], _∷_, _++_, append-assoc, append-nil}
+use mathlib.Core.List.{List, [], _∷_, _++_, append-assoc}
 use mathlib.Core.Logic.{by-cases}
 use Prim.Native.Nat.{ℕ, zero, suc, _+_, _≤_, _<_}
 use native.Mathlib.Decide.{decLt}
@@ -9,7 +9,7 @@ use native.Mathlib.Numerals.{add-one}
 use native.Mathlib.Omega.{arith}
 use borrow.Author.Tests.{le-leb, lt-leb}
 use lib.ListN.{length, getD, take, drop, length-append, length-drop, take-append-drop, drop-of-length-le}
-use lib.Seq.{getD-drop, length-take-le, take-append-seam, drop-append-seam, drop-cons, drop-drop, take-add}
+use lib.Seq.{getD-drop, length-take-le, take-append-seam, drop-append-seam, drop-cons, drop-drop}
 use Rattle.octets.specs.Bytes.{Below}
 use Rattle.records.specs.declared.record.Record.the-variants.{Whole, Cut, End}
 use Rattle.records.specs.Record.{recordAt, joined, Walk, found, walk, recordsOf, restOf}
@@ -201,12 +201,3 @@ module _ (s : List ℕ) (at : ℕ) where
           records-whole size (drop start s) (rw length-drop (omega (arith, stands .ends))),
           drop-drop size start s,
         )
-
-    -- the bytes passed, with one record more
-    pub passed-whole : (frames : List (List ℕ)) → take at s ≡ joined frames
-        → take (start + size) s ≡ joined (frames ++ (take size (drop start s) ∷ []))
-    unfolding joined
-    passed-whole frames p =
-        let n : start + size ≡ at + suc size = omega (arith, stands .follows) in
-        let f = length-take-le size (drop start s) (rw length-drop (omega (arith, stands .ends))) in
-        rw (n, take-add at (suc size) s, p, here, joined-append, f, append-nil (take size (drop start s)))

@@ -1,7 +1,6 @@
 -- `transcript::taking::chunk` meets its contract. The loop's invariant: what is to come from the places reached is the
 -- whole chunk. The measure is what is left of the input. Assumes nothing.
 use mathlib.Core.Path.{refl, _≡_, sym, _∙_}
-use mathlib.Core.List.{[]}
 use Prim.Native.Nat.{_≤_, _-_}
 use native.Mathlib.Omega.{arith}
 use borrow.Author.Needs.{needs}
