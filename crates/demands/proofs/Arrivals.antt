@@ -30,12 +30,11 @@ use Rattle.mmbi.specs.Interface.{stateOf, mayRead}
 use Rattle.mmbi.specs.declared.interface.Flags.{Flags}
 use Rattle.mmbi.specs.Pointers.{lengthRight}
 use Rattle.ring.specs.Round.{roundFrom, stored}
-use Rattle.ring.specs.Packet.{paddingFor, headerFor, wholeFor, ringBytes}
+use Rattle.ring.specs.Layout.{paddingFor, headerFor, wholeFor, ringBytes}
 use Rattle.ring.specs.Runs.{arrivalRing}
-use Rattle.ring.specs.Reading as taking
 use Rattle.ring.specs.Writing as putting
 use Rattle.ring.specs.declared.answer.Carried.the-variants as case
-use Rattle.ring.proofs.Made.{round-bytes}
+use Rattle.ring.proofs.Layouts.{round-bytes}
 use Rattle.ring.proofs.RoundTrip as ring-round
 use Rattle.slots.specs.declared.state.Receiver.{Receiver}
 use Rattle.receiver.specs.Effects.{Unchanged, SlotFreed}
@@ -66,7 +65,8 @@ module _ (most : ℕ) (r : Receiver) (m : List ℕ) where
       (λ (d : Brought). arrivedOf most r m d .told ≡ given beside (refused n)
       → SlotFreed (keyOf p) r m (arrivedOf most r m d .receiver) (arrivedOf most r m d .memory))
       (sym is)
-      (λ (t : given beside (stepOf most r m p .said) ≡ given beside (refused n)). refused-freed most r m p n (cc) twenty)
+      (λ (t : given beside (stepOf most r m p .said) ≡ given beside (refused n)). refused-freed most r m p n
+      (cc) twenty)
       e
 
 module _ (most : ℕ) where
@@ -93,17 +93,16 @@ module _ (most : ℕ) where
   -- and a reading that leaves the packet at the output's front makes one of a ring
   pub ring-found : (bytes : List ℕ) (configured : ℕ) (flags : Flags) (read write : ℕ) (p : List ℕ) (next : ℕ)
       (out : List ℕ) → mayRead (stateOf flags) ≡ true
-      → taking.readOf most bytes configured true read write out
-      ≡ taking.left (taking.packet (length p) next) (fronted out p)
+      → ring-round.Gives most bytes configured true read write out p next
       → ringBrings most bytes configured flags read write out ≡ packet p (Next next)
   unfolding fronted
   ring-found bytes configured flags read write p next out may e =
-      let told = sym (ap (λ (b : Bool). taking.readOf most bytes configured b read write out) may ∙ e) in
+      let gives : ring-round.Gives most bytes configured (mayRead (stateOf flags)) read write out p next = rw may e in
       let answer = case.Packet (length p) next in
-      let front = ring-front most bytes configured flags read write out (fronted out p) answer told
-      (length p) next refl in
-      ring-brings most bytes configured flags read write out (fronted out p) answer told answer refl
-      ∙ ap (λ (q : List ℕ). packet q (Next next)) (sym front ∙ take-at p (drop (length p) out) (length p) refl)
+      let front = ring-front most bytes configured flags read write out answer (sym (gives .0)) (length p) next refl in
+      ring-brings most bytes configured flags read write out answer (sym (gives .0)) answer refl
+      ∙ ap (λ (q : List ℕ). packet q (Next next))
+      (sym front ∙ ap (take (length p)) (gives .1) ∙ take-at p (drop (length p) out) (length p) refl)
 
   pub frame-back : (out p : List ℕ) (destination source : ℕ)
       → frames.writeRefusal most (length out) (length p) destination source ≡ 0
@@ -125,14 +124,14 @@ module _ (most : ℕ) where
 
   pub ring-back : (bytes : List ℕ) (configured : ℕ) (running : Bool) (read write : ℕ) (p : List ℕ) (next : ℕ)
       (flags : Flags) (out : List ℕ)
-      → putting.writeOf most bytes configured running read write p .says ≡ putting.written next
+      → putting.enteredOf most (length bytes) configured running read write (length p) ≡ putting.entered next
       → mayRead (stateOf flags) ≡ true → 4 + most ≤ length out
-      → ringBrings most (putting.writeOf most bytes configured running read write p .ring) configured flags write next
+      → ringBrings most (putting.writtenOf most bytes configured running read write p) configured flags write next
       out ≡ packet p (Next next)
   ring-back bytes configured running read write p next flags out e may room =
-      ring-found (putting.writeOf most bytes configured running read write p .ring) configured flags write next p next
+      ring-found (putting.writtenOf most bytes configured running read write p) configured flags write next p next
       out may
-      (ring-round.round-trip most bytes configured running read write p next out e room)
+      (ring-round.written-reads-back most bytes configured running read write p next e out room)
 
 module _ (p : List ℕ) where
   pub every-frame : (destination source : ℕ) → Below 256 p → sizeRight 64 (length p) ≡ true → destination ≤ 127

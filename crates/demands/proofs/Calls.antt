@@ -23,6 +23,7 @@ use Rattle.pcc.proofs.write.Reads as pcc-write
 use Rattle.mmbi.specs.Interface.{stateOf, isTransient, mayWrite}
 use Rattle.mmbi.proofs.transient.Reads as transient
 use Rattle.ring.specs.Writing as putting
+use Rattle.ring.specs.Answers.{enteredIn}
 use Rattle.ring.proofs.write.Reads as ring-write
 use Rattle.descriptor.specs.Reading.{configuredOf}
 use Rattle.descriptor.proofs.read_descriptor.Reads as read-descriptor
@@ -75,10 +76,11 @@ pcc-write-is κs a r e p = (p .0, p .1)
 
 -- the ring: its bytes, the configured length, the flags, the pointers, and a packet
 pub ring-write-is : (κs : Lfts 2) (a r e : _) → ring-write.Post κs a r e
-    → putting.left (putting.saidOf r) (e .0 .now)
-    ≡ putting.writeOf 64 (a .0 .now) (a .1 .0) (mayWrite (stateOf (a .1 .1 .0))) (a .1 .1 .1 .0 .read)
-    (a .1 .1 .1 .0 .write) (a .1 .1 .1 .1 .0 .now)
-ring-write-is κs a r e p = p
+    → (enteredIn r ≡ putting.enteredOf 64 (length (a .0 .now)) (a .1 .0) (mayWrite (stateOf (a .1 .1 .0)))
+    (a .1 .1 .1 .0 .read) (a .1 .1 .1 .0 .write) (length (a .1 .1 .1 .1 .0 .now)))
+    × (e .0 .now ≡ putting.writtenOf 64 (a .0 .now) (a .1 .0) (mayWrite (stateOf (a .1 .1 .0)))
+    (a .1 .1 .1 .0 .read) (a .1 .1 .1 .0 .write) (a .1 .1 .1 .1 .0 .now))
+ring-write-is κs a r e p = (p .0, p .1)
 
 -- the window, by itself; with a configuration, and then an area, or a word's place with a word or a pointer
 pub read-descriptor-is : (κs : Lfts 1) (a r e : _) → read-descriptor.Post κs a r e → r ≡ configuredOf (a .0 .now)

@@ -33,7 +33,7 @@ module _ (window : List ℕ) (c : Configuration) (area : Area) (is : isRing area
     (e : configuredOf window ≡ Checked c)
     (configured : ℕ) (running : Bool) (read write : ℕ) (p : List ℕ) where
   abbrev ring : List ℕ
-  ring = putting.writeOf 64 (areaOf window c area) configured running read write p .ring
+  ring = putting.writtenOf 64 (areaOf window c area) configured running read write p
 
   fits : length ring ≡ areaPlace c area .length
   fits = written-length 64 (areaOf window c area) configured running read write p ∙ found-ring-cut window c area is e .0

@@ -38,16 +38,16 @@ use Rattle.mmbi.specs.declared.interface.Flags.{Flags}
 use Rattle.mmbi.specs.Pointers.{pointerRight}
 use Rattle.mmbi.specs.Pointers.{lengthRight}
 use Rattle.ring.specs.Numbers.{setUpRight, pointersRight, filledOf, nextOf}
-use Rattle.ring.specs.Packet.{packetOf, wholeFor, ringBytes, RingLayout}
+use Rattle.ring.specs.Layout.{packetOf, wholeFor, ringBytes, RingLayout}
 use Rattle.ring.specs.Round as rounds
 use Rattle.ring.specs.Round.{roundFrom}
 use Rattle.ring.specs.Runs.{arrivalRing, allSized, spaceFor, allBytes, queued, allReadable, readAll}
 use Rattle.ring.specs.Reading as taking
 use Rattle.ring.specs.Writing as putting
 use Rattle.ring.proofs.Fifo.{fifo, filled-back, not-queued}
-use Rattle.ring.proofs.Made.{ring-layout}
-use Rattle.ring.proofs.Readings.{taken-not-1}
-use Rattle.ring.proofs.Writings.{put-not-1}
+use Rattle.ring.proofs.Layouts.{ring-layout}
+use Rattle.ring.proofs.Readings.{found-not-1}
+use Rattle.ring.proofs.Writings.{entered-not-1}
 use Rattle.slots.specs.declared.state.Receiver.{Receiver}
 use Rattle.slots.specs.declared.state.Setup.{Setup}
 use Rattle.slots.specs.State.{rightState}
@@ -111,7 +111,7 @@ not-freed = freed-refused 64
 -- "and a ring packet that was already copied out": the output holds it at its front, and is unchanged where there is
 -- none
 pub ring-output : (ring : List ℕ) (configured : ℕ) (flags : Flags) (read write : ℕ) (out : List ℕ)
-    → taking.readOf 64 ring configured (mayRead (stateOf flags)) read write out .output
+    → taking.outputOf 64 ring configured (mayRead (stateOf flags)) read write out
     ≡ outputs.outputOf (ringBrings 64 ring configured flags read write out) out
 ring-output = outputs.ring-output 64
 
@@ -119,20 +119,20 @@ ring-output = outputs.ring-output 64
 pub cut-ring-is-never-1 : (window : List ℕ) (c : Configuration) (area : Area) → isRing area ≡ true
     → configuredOf window ≡ Checked c
     → (readable running : Bool) (read write n : ℕ)
-    → (taking.takenOf 64 (areaOf window c area) (areaPlace c area .length) readable read write n ≡ taking.refused 1 → ⊥)
-    × (putting.putOf 64 (length (areaOf window c area)) (areaPlace c area .length) running read write n
+    → (taking.foundOf 64 (areaOf window c area) (areaPlace c area .length) readable read write n ≡ taking.refused 1 → ⊥)
+    × (putting.enteredOf 64 (length (areaOf window c area)) (areaPlace c area .length) running read write n
     ≡ putting.refused 1 → ⊥)
 cut-ring-is-never-1 window c area is e readable running read write n =
     let right = cut-ring-right window c area is e in (
-      taken-not-1 64 (areaOf window c area) (areaPlace c area .length) readable read write n right,
-      put-not-1 64 (length (areaOf window c area)) (areaPlace c area .length) running read write n right,
+      found-not-1 64 (areaOf window c area) (areaPlace c area .length) readable read write n right,
+      entered-not-1 64 (length (areaOf window c area)) (areaPlace c area .length) running read write n right,
     )
 
 -- what is written to it changes that ring alone: descriptor, structures with their words, and the other ring stay
 pub a-write-stays-in-its-ring : (window : List ℕ) (c : Configuration) (area : Area) → isRing area ≡ true
     → configuredOf window ≡ Checked c
     → (configured : ℕ) (running : Bool) (read write : ℕ) (p : List ℕ)
-    → RingChanged window c area (putting.writeOf 64 (areaOf window c area) configured running read write p .ring)
+    → RingChanged window c area (putting.writtenOf 64 (areaOf window c area) configured running read write p)
 a-write-stays-in-its-ring = write-stays
 
 -- a word, and a pointer alone, that are refused to be stored: the window stays
@@ -158,9 +158,10 @@ pub region-not-written : (region : List ℕ) (id : ℕ) (notify : Bool) (p : Lis
 region-not-written region id notify p = written-refused region p id notify 64
 
 pub ring-not-written : (ring : List ℕ) (configured : ℕ) (running : Bool) (read write : ℕ) (p : List ℕ) (n : ℕ)
-    → putting.writeOf 64 ring configured running read write p .says ≡ putting.refused n
-    → putting.writeOf 64 ring configured running read write p .ring ≡ ring
-ring-not-written ring configured running read write p n e = ap (λ (s : putting.Said). putting.ringOf s ring write p) e
+    → putting.enteredOf 64 (length ring) configured running read write (length p) ≡ putting.refused n
+    → putting.writtenOf 64 ring configured running read write p ≡ ring
+ring-not-written ring configured running read write p n e =
+    ap (λ (s : putting.Entered). putting.ringAfter s ring write p) e
 
 -- DEMAND 2: THE LAYOUTS AND THE MESSAGE RULES
 --
@@ -191,17 +192,18 @@ written-region-is-the-layout region id notify p = written-whole region p id noti
 -- some padding of the right length; size and pointer are its own; and a written one has zeros there
 pub good-ring-packet-is-the-layout : (ring : List ℕ) (configured : ℕ) (readable : Bool)
     (read write output size next : ℕ) → Below 256 ring
-    → taking.takenOf 64 ring configured readable read write output ≡ taking.packet size next
-    → RingLayout (roundFrom read ring) (packetOf (roundFrom read ring)) × (length (packetOf (roundFrom read ring)) ≡ size)
+    → taking.foundOf 64 ring configured readable read write output ≡ taking.packet size next
+    → RingLayout (roundFrom read ring) (packetOf (roundFrom read ring))
+    × (length (packetOf (roundFrom read ring)) ≡ size)
     × (next ≡ nextOf configured read (wholeFor size))
 good-ring-packet-is-the-layout = ring-layout 64
 
 pub written-ring-packet-is-the-layout : (ring : List ℕ) (configured : ℕ) (running : Bool) (read write : ℕ)
     (p : List ℕ) (next : ℕ)
-    → putting.writeOf 64 ring configured running read write p .says ≡ putting.written next
-    → putting.writeOf 64 ring configured running read write p .ring ≡ rounds.stored ring write (ringBytes p)
+    → putting.enteredOf 64 (length ring) configured running read write (length p) ≡ putting.entered next
+    → putting.writtenOf 64 ring configured running read write p ≡ rounds.stored ring write (ringBytes p)
 written-ring-packet-is-the-layout ring configured running read write p next e =
-    ap (λ (s : putting.Said). putting.ringOf s ring write p) e
+    ap (λ (s : putting.Entered). putting.ringAfter s ring write p) e
 
 -- "and messages are put together by the MCTP rules": packets of one key with start first, sequences rising modulo 4,
 -- middles of the start's size, an end no longer, are accepted whatever may stand between; held is the sum of the bodies
@@ -235,9 +237,9 @@ region-reads-back = good.region-back 64
 -- "a ring from the old write pointer."
 pub ring-reads-back : (ring : List ℕ) (configured : ℕ) (running : Bool) (read write : ℕ) (p : List ℕ) (next : ℕ)
     (flags : Flags) (out : List ℕ)
-    → putting.writeOf 64 ring configured running read write p .says ≡ putting.written next
+    → putting.enteredOf 64 (length ring) configured running read write (length p) ≡ putting.entered next
     → mayRead (stateOf flags) ≡ true → 68 ≤ length out
-    → brings 64 (byRing (putting.writeOf 64 ring configured running read write p .ring) configured flags write next
+    → brings 64 (byRing (putting.writtenOf 64 ring configured running read write p) configured flags write next
     out) ≡ packet p (Next next)
 ring-reads-back = good.ring-back 64
 
@@ -268,10 +270,12 @@ what-is-still-there-is-read-back ring configured read write packets states out r
 -- and the ring stays as it is
 pub nothing-is-queued-while-a-reset-is-asked : (ring : List ℕ) (configured read write : ℕ) (p : List ℕ)
     → setUpRight 64 configured (length ring) ≡ true → sizeRight 64 (length p) ≡ true
-    → (putting.writeOf 64 ring configured (mayWrite (stateOf askedByHost)) read write p
-    ≡ putting.left (putting.refused 11) ring)
-    × (putting.writeOf 64 ring configured (mayWrite (stateOf askedByController)) read write p
-    ≡ putting.left (putting.refused 11) ring)
+    → ((putting.enteredOf 64 (length ring) configured (mayWrite (stateOf askedByHost)) read write (length p)
+    ≡ putting.refused 11)
+    × (putting.writtenOf 64 ring configured (mayWrite (stateOf askedByHost)) read write p ≡ ring))
+    × ((putting.enteredOf 64 (length ring) configured (mayWrite (stateOf askedByController)) read write (length p)
+    ≡ putting.refused 11)
+    × (putting.writtenOf 64 ring configured (mayWrite (stateOf askedByController)) read write p ≡ ring))
 unfolding stateOf
 nothing-is-queued-while-a-reset-is-asked ring configured read write p right sized = (
   not-queued 64 ring configured askedByHost read write p right sized refl,

@@ -34,7 +34,7 @@ use Rattle.window.specs.Places as window
 use Rattle.window.specs.Words as words
 use Rattle.window.specs.PutBack.{RingChanged}
 use Rattle.ring.specs.Numbers.{filledOf, nextOf}
-use Rattle.ring.specs.Packet.{packetOf, wholeFor, headerFor, ringBytes, RingLayout}
+use Rattle.ring.specs.Layout.{packetOf, wholeFor, headerFor, ringBytes, RingLayout}
 use Rattle.ring.specs.Runs.{arrivalRing, allSized, spaceFor, allBytes, queued, allReadable, readAll}
 use Rattle.ring.specs.Round.{roundFrom, stored}
 use Rattle.ring.specs.Reading as taking
@@ -113,14 +113,14 @@ not-freed = demands.not-freed card 4 (λ e. omega (arith, steps .no-slot))
 
 -- the window of document 003's tables, worked out by hand
 pub cut-ring-is-never-1 : (readable running : Bool) (read write n : ℕ)
-    → (taking.takenOf 64 (window.areaOf windowImage imageConfiguration B2h)
+    → (taking.foundOf 64 (window.areaOf windowImage imageConfiguration B2h)
     (areaPlace imageConfiguration B2h .length) readable read write n ≡ taking.refused 1 → ⊥)
-    × (putting.putOf 64 (length (window.areaOf windowImage imageConfiguration B2h))
+    × (putting.enteredOf 64 (length (window.areaOf windowImage imageConfiguration B2h))
     (areaPlace imageConfiguration B2h .length) running read write n ≡ putting.refused 1 → ⊥)
 cut-ring-is-never-1 = demands.cut-ring-is-never-1 windowImage imageConfiguration B2h refl image-found
 
 pub a-write-stays-in-its-ring : RingChanged windowImage imageConfiguration B2h
-    (putting.writeOf 64 (window.areaOf windowImage imageConfiguration B2h) 128 true 0 0 literalPacket .ring)
+    (putting.writtenOf 64 (window.areaOf windowImage imageConfiguration B2h) 128 true 0 0 literalPacket)
 a-write-stays-in-its-ring =
     demands.a-write-stays-in-its-ring windowImage imageConfiguration B2h refl image-found 128 true 0 0 literalPacket
 
@@ -150,11 +150,11 @@ frame-not-written = demands.frame-not-written [] literalPacket 32 17 (λ e. omeg
 pub region-not-written : regions.writtenOf 64 [] 3 true literalPacket ≡ []
 region-not-written = demands.region-not-written [] 3 true literalPacket (omega (arith, no-room .1))
 
-not-running : putting.putOf 64 128 128 false 0 0 5 ≡ putting.refused 11
-unfolding putting.putOf
+not-running : putting.enteredOf 64 128 128 false 0 0 5 ≡ putting.refused 11
+unfolding putting.enteredOf
 not-running = refl
 
-pub ring-not-written : putting.writeOf 64 (replicate 128 238) 128 false 0 0 literalPacket .ring ≡ replicate 128 238
+pub ring-not-written : putting.writtenOf 64 (replicate 128 238) 128 false 0 0 literalPacket ≡ replicate 128 238
 ring-not-written = demands.ring-not-written (replicate 128 238) 128 false 0 0 literalPacket 11 not-running
 
 -- DEMAND 2
@@ -204,10 +204,10 @@ good-region-is-the-layout =
 abbrev round : List ℕ
 round = replicate 128 238
 
-written : putting.writeOf 64 round 128 true 120 120 image.packet .says ≡ putting.written 4
-written = ap (λ (l : putting.Left). l .says) image.image-written
+written : putting.enteredOf 64 128 128 true 120 120 5 ≡ putting.entered 4
+written = image.image-written .0
 
-pub written-ring-packet-is-the-layout : putting.writeOf 64 round 128 true 120 120 image.packet .ring
+pub written-ring-packet-is-the-layout : putting.writtenOf 64 round 128 true 120 120 image.packet
     ≡ stored round 120 (ringBytes image.packet)
 written-ring-packet-is-the-layout =
     demands.written-ring-packet-is-the-layout round 128 true 120 120 image.packet 4 written
@@ -217,7 +217,7 @@ unfolding stateOf
 readable = refl
 
 pub ring-reads-back : brings 64
-    (byRing (putting.writeOf 64 round 128 true 120 120 image.packet .ring) 128 askedByController 120 4
+    (byRing (putting.writtenOf 64 round 128 true 120 120 image.packet) 128 askedByController 120 4
     (replicate 68 0)) ≡ carrier.packet image.packet (Next 4)
 ring-reads-back =
     demands.ring-reads-back round 128 true 120 120 image.packet 4 askedByController
@@ -229,7 +229,7 @@ pub good-ring-packet-is-the-layout :
     × (length (packetOf (roundFrom 120 image.written)) ≡ 5) × (4 ≡ nextOf 128 120 (wholeFor 5))
 good-ring-packet-is-the-layout =
     demands.good-ring-packet-is-the-layout image.written 128 true 120 4 68 5 4 (all-bytes image.written tt)
-    (ap (λ (l : taking.Left). l .says) image.image-read)
+    (image.image-read .0)
 
 -- three packets in the ring of bytes EE, over its end
 three-fit : (allSized 64 image.three ≡ true) × (spaceFor image.three ≡ 36)
@@ -275,10 +275,12 @@ what-is-still-there-is-read-back =
     (replicate 2 askedByController) (replicate 68 0) refl refl (two-right .0) two-left (two-right .1) refl (lit≤ tt)
 
 pub nothing-is-queued-while-a-reset-is-asked :
-    (putting.writeOf 64 (image.threeKept .ring) 128 (mayWrite (stateOf askedByHost)) 100 8 literalPacket
-    ≡ putting.left (putting.refused 11) (image.threeKept .ring))
-    × (putting.writeOf 64 (image.threeKept .ring) 128 (mayWrite (stateOf askedByController)) 100 8 literalPacket
-    ≡ putting.left (putting.refused 11) (image.threeKept .ring))
+    ((putting.enteredOf 64 128 128 (mayWrite (stateOf askedByHost)) 100 8 5 ≡ putting.refused 11)
+    × (putting.writtenOf 64 (image.threeKept .ring) 128 (mayWrite (stateOf askedByHost)) 100 8 literalPacket
+    ≡ image.threeKept .ring))
+    × ((putting.enteredOf 64 128 128 (mayWrite (stateOf askedByController)) 100 8 5 ≡ putting.refused 11)
+    × (putting.writtenOf 64 (image.threeKept .ring) 128 (mayWrite (stateOf askedByController)) 100 8 literalPacket
+    ≡ image.threeKept .ring))
 nothing-is-queued-while-a-reset-is-asked =
     demands.nothing-is-queued-while-a-reset-is-asked (image.threeKept .ring) 128 100 8 literalPacket refl refl
 

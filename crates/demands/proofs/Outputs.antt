@@ -16,16 +16,16 @@ abbrev pub outputOf : Brought → List ℕ → List ℕ
 outputOf (packet p beside) out = fronted out p
 outputOf (none why) out = out
 
-by-answer : (said : taking.Said) (s out : List ℕ) → taking.outputOf said s out ≡ outputOf (ringSays s said) out
+by-answer : (found : taking.Found) (s out : List ℕ) → taking.outputAfter found s out ≡ outputOf (ringSays s found) out
 by-answer (taking.packet size next) s out = refl
 by-answer taking.empty s out = refl
 by-answer (taking.skipped number next) s out = refl
 by-answer (taking.refused number) s out = refl
 
 pub ring-output : (most : ℕ) (ring : List ℕ) (configured : ℕ) (flags : Flags) (read write : ℕ) (out : List ℕ)
-    → taking.readOf most ring configured (mayRead (stateOf flags)) read write out .output
+    → taking.outputOf most ring configured (mayRead (stateOf flags)) read write out
     ≡ outputOf (ringBrings most ring configured flags read write out) out
 unfolding ringBrings
 ring-output most ring configured flags read write out =
-    by-answer (taking.takenOf most ring configured (mayRead (stateOf flags)) read write (length out))
+    by-answer (taking.foundOf most ring configured (mayRead (stateOf flags)) read write (length out))
     (roundFrom read ring) out

@@ -14,7 +14,7 @@ use Rattle.smbus.proofs.Literal.{literalFrame, literalPacket}
 use Rattle.pcc.specs.Layout.{regionFor}
 use Rattle.mmbi.specs.declared.interface.Flags.{Flags}
 use Rattle.mmbi.specs.Interface.{stateOf, mayRead}
-use Rattle.ring.specs.Packet.{wholeFor}
+use Rattle.ring.specs.Layout.{wholeFor}
 use Rattle.ring.specs.Runs.{arrivalRing}
 use Rattle.slots.specs.declared.state.Receiver.{Receiver}
 use Rattle.slots.specs.Slots.{slotAt, isFree}

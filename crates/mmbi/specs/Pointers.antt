@@ -1,4 +1,5 @@
--- Which lengths a ring may have, and which numbers are pointers into it (document 01, "MMBI descriptor, state and ring").
+-- Which lengths a ring may have, and which numbers are pointers into it (document 01, "MMBI descriptor, state and
+-- ring").
 -- Assumes nothing.
 use Prim.Native.Nat.{ℕ, _%_}
 use mathlib.Core.Bool.{Bool, _&&_}

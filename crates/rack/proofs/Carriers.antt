@@ -30,8 +30,9 @@ use Rattle.ring.specs.declared.answer.Carried as ring
 use Rattle.ring.specs.declared.answer.Carried.the-variants as ring-case
 use Rattle.ring.proofs.answer.Carried.{the-type}
 use Rattle.ring.specs.Round.{roundFrom}
-use Rattle.ring.specs.Packet as ring-packet
+use Rattle.ring.specs.Layout as ring-layout
 use Rattle.ring.specs.Reading as ring-says
+use Rattle.ring.specs.Answers.{foundIn}
 use Rattle.ring.proofs.Rounds.{round-length}
 use Rattle.ring.proofs.Readings.{Good, good, good-short}
 use Rattle.rack.specs.declared.answer.Beside.the-variants.{Source, Notify}
@@ -76,7 +77,7 @@ module _ (most : ℕ) (r : List ℕ) (id : ℕ) (c : pcc.Carried) (says : pcc-sa
 
 -- the second, third and fourth kind of a ring's answer
 says-none : (s : List ℕ) (t : ring.Carried) → OneOf (1 ∷ 2 ∷ 3 ∷ []) (tagOf the-type t)
-    → ringSays s (ring-says.saidOf t) ≡ none (without (whyRing t))
+    → ringSays s (foundIn t) ≡ none (without (whyRing t))
 says-none s (ring-case.Packet size next) tag =
     ⊎-elim (λ h. absurd (omega arith)) (⊎-elim (λ h. absurd (omega arith)) (λ h. absurd (omega arith))) tag
 says-none s ring-case.Empty tag = refl
@@ -89,23 +90,18 @@ module _
     (configured : ℕ)
     (flags : Flags)
     (read write : ℕ)
-    (out after : List ℕ)
+    (out : List ℕ)
     (t : ring.Carried)
-    (told : ring-says.left (ring-says.saidOf t) after
-    ≡ ring-says.readOf most bytes configured (mayRead (stateOf flags)) read write out)
+    (told : foundIn t ≡ ring-says.foundOf most bytes configured (mayRead (stateOf flags)) read write (length out))
   where
-    -- the output afterwards
-    pub ring-output : after ≡ ring-says.readOf most bytes configured (mayRead (stateOf flags)) read write out .output
-    ring-output = ap (λ (l : ring-says.Left). l .output) told
-
     module _ (u : ring.Carried) (is : t ≡ u) where
-      said : ring-says.takenOf most bytes configured (mayRead (stateOf flags)) read write (length out)
-          ≡ ring-says.saidOf u
-      said = sym (ap (λ (l : ring-says.Left). l .says) told) ∙ ap ring-says.saidOf is
+      said : ring-says.foundOf most bytes configured (mayRead (stateOf flags)) read write (length out)
+          ≡ foundIn u
+      said = sym told ∙ ap foundIn is
 
       -- what the ring brings is what its answer says
       pub ring-brings : ringBrings most bytes configured flags read write out
-          ≡ ringSays (roundFrom read bytes) (ring-says.saidOf u)
+          ≡ ringSays (roundFrom read bytes) (foundIn u)
       unfolding ringBrings
       ring-brings = ap (ringSays (roundFrom read bytes)) said
 
@@ -120,20 +116,22 @@ module _
           (said (ring-case.Packet size next) is)
 
       pub ring-fits : size ≤ length out
-      ring-fits = omega (arith, found .room, found .header .largest)
+      ring-fits = omega (arith, found .room, found .largest)
 
-      sized : length (ring-packet.packetOf (roundFrom read bytes)) ≡ size
-      unfolding ring-packet.packetOf
+      sized : length (ring-layout.packetOf (roundFrom read bytes)) ≡ size
+      unfolding ring-layout.packetOf
       sized =
           let short : 4 + size < length bytes =
           good-short most bytes configured (mayRead (stateOf flags)) read write (length out) size next found in
-          simp (length-take, length-drop, round-length) (omega (arith, found .header .sized))
+          simp (length-take, length-drop, round-length) (omega (arith, found .sized))
 
       -- the packet stands at the output's front
-      pub ring-front : take size after ≡ ring-packet.packetOf (roundFrom read bytes)
+      pub ring-front : take size
+          (ring-says.outputOf most bytes configured (mayRead (stateOf flags)) read write out)
+          ≡ ring-layout.packetOf (roundFrom read bytes)
       unfolding fronted
       ring-front =
-          ap (take size) (ring-output ∙ ap (λ (w : ring-says.Said). ring-says.outputOf w (roundFrom read bytes) out)
-          (said (ring-case.Packet size next) is))
-          ∙ take-at (ring-packet.packetOf (roundFrom read bytes))
-          (drop (length (ring-packet.packetOf (roundFrom read bytes))) out) size sized
+          ap (λ (f : ring-says.Found). take size (ring-says.outputAfter f (roundFrom read bytes) out))
+          (said (ring-case.Packet size next) is)
+          ∙ take-at (ring-layout.packetOf (roundFrom read bytes))
+          (drop (length (ring-layout.packetOf (roundFrom read bytes))) out) size sized

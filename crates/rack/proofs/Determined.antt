@@ -8,7 +8,7 @@ use Rattle.octets.proofs.Choice.{determined}
 use Rattle.mctp.proofs.Refusals.{number-injective}
 use Rattle.receiver.proofs.Determined.{says-injective}
 use Rattle.mmbi.specs.Interface.{stateOf, mayRead}
-use Rattle.ring.specs.Reading.{readOf}
+use Rattle.ring.specs.Reading.{outputOf}
 use Rattle.rack.specs.declared.answer.NoPacket.{NoPacket}
 use Rattle.rack.specs.declared.answer.NoPacket.the-variants.{Empty, Skipped, Refused}
 use Rattle.rack.specs.declared.answer.Arrived.{Arrived}
@@ -61,8 +61,8 @@ pub from-ring-arrives : (κs : Lfts 3) (a r e : _) → ring.Post κs a r e
     (brings 64
     (byRing (a .0 .now) (a .1 .0) (a .1 .1 .0) (a .1 .1 .1 .0 .read) (a .1 .1 .1 .0 .write) (a .1 .1 .1 .1 .0 .now))))
     × (e .1 .1 .1 .1 .0 .now
-    ≡ readOf 64 (a .0 .now) (a .1 .0) (mayRead (stateOf (a .1 .1 .0))) (a .1 .1 .1 .0 .read) (a .1 .1 .1 .0 .write)
-    (a .1 .1 .1 .1 .0 .now) .output)
+    ≡ outputOf 64 (a .0 .now) (a .1 .0) (mayRead (stateOf (a .1 .1 .0))) (a .1 .1 .1 .0 .read) (a .1 .1 .1 .0 .write)
+    (a .1 .1 .1 .1 .0 .now))
 from-ring-arrives κs a r e p = p
 
 -- .. and leaves no choice.

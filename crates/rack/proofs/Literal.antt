@@ -14,7 +14,7 @@ use Rattle.mmbi.specs.Interface.{normalRuntime, stateOf}
 use Rattle.mmbi.proofs.States.{sixteen}
 use Rattle.ring.specs.Numbers.{filledOf, nextOf}
 use Rattle.ring.specs.Round.{roundFrom}
-use Rattle.ring.specs.Packet as bytes
+use Rattle.ring.specs.Layout as bytes
 use Rattle.ring.specs.Reading as reading
 use Rattle.ring.proofs.Literal as ring
 use Rattle.rack.specs.declared.answer.Beside.the-variants.{Source, Notify, Next}
@@ -43,7 +43,7 @@ pub by-ring : from ring.written 120 4
     ∷ from (0 ∷ 0 ∷ 1 ∷ 4 ∷ replicate 124 0) 0 12
     ∷ []
     ≡ packet ring.packet (Next 4) ∷ none empty ∷ none (skipped 14 4) ∷ none (skipped 3 4) ∷ none (refused 13) ∷ []
-unfolding ringBrings stateOf reading.takenOf reading.judged filledOf nextOf roundFrom bytes.packetOf wordAt
+unfolding ringBrings stateOf reading.foundOf reading.judged filledOf nextOf roundFrom bytes.packetOf wordAt
 by-ring = refl
 
 -- ring's packet in each of the sixteen flag states, from 0000 to 1111: good in 1010, 1011 and 1110
@@ -57,5 +57,5 @@ pub by-state :
     ∷ packet ring.packet (Next 4)
     ∷ none (refused 11)
     ∷ [])
-unfolding ringBrings stateOf reading.takenOf reading.judged filledOf nextOf roundFrom bytes.packetOf wordAt
+unfolding ringBrings stateOf reading.foundOf reading.judged filledOf nextOf roundFrom bytes.packetOf wordAt
 by-state = refl

@@ -11,7 +11,7 @@ use Rattle.mmbi.specs.Interface.{stateOf, mayRead}
 use Rattle.smbus.specs.Reading as smbus
 use Rattle.pcc.specs.Reading as pcc
 use Rattle.ring.specs.Round.{roundFrom}
-use Rattle.ring.specs.Packet as ringPacket
+use Rattle.ring.specs.Layout as ringLayout
 use Rattle.ring.specs.Reading as ring
 use Rattle.rack.specs.declared.answer.Beside.{Beside}
 use Rattle.rack.specs.declared.answer.Beside.the-variants.{Source, Notify, Next}
@@ -62,15 +62,16 @@ pccBrings most region id =
     (none (refused (pcc.refusalOf most region id)))
 
 -- a ring that starts at the read pointer: "A good ring arrival gives the new read pointer"
-abbrev pub ringSays : List ℕ → ring.Said → Brought
-ringSays s (ring.packet size next) = packet (ringPacket.packetOf s) (Next next)
+abbrev pub ringSays : List ℕ → ring.Found → Brought
+ringSays s (ring.packet size next) = packet (ringLayout.packetOf s) (Next next)
 ringSays s ring.empty = none empty
 ringSays s (ring.skipped number next) = none (skipped number next)
 ringSays s (ring.refused number) = none (refused number)
 
 unfoldable pub ringBrings : ℕ → List ℕ → ℕ → Flags → ℕ → ℕ → List ℕ → Brought
 ringBrings most bytes configured flags read write out =
-    ringSays (roundFrom read bytes) (ring.takenOf most bytes configured (mayRead (stateOf flags)) read write (length out))
+    ringSays (roundFrom read bytes)
+    (ring.foundOf most bytes configured (mayRead (stateOf flags)) read write (length out))
 
 -- "The carrier's checks come first, all of them": what the carrier of an arrival makes of it
 abbrev pub brings : ℕ → Arrival → Brought

@@ -10,7 +10,7 @@ use mmbi::Pointers;
 use slots::Receiver;
 ghost use mathlib.Core.Path.{_≡_};
 ghost use Rattle.mmbi.specs.Interface.{stateOf, mayRead};
-ghost use Rattle.ring.specs.Reading.{readOf};
+ghost use Rattle.ring.specs.Reading.{outputOf};
 ghost use Rattle.rack.specs.Arrivals.{packet as carried, smbusBrings, pccBrings, ringBrings};
 ghost use Rattle.rack.specs.Answers.{left, arrivedOf};
 
@@ -56,9 +56,8 @@ pub fn from_ring(
 ) -> Received
     ensures { λ r. ⌜ left r (now (memory .exit)) ≡ arrivedOf 64 receiver (now (memory .entry))
         (ringBrings 64 (now (bytes .entry)) configured flags (pointers .read) (pointers .write) (now (out .entry))) ⌝ }
-    ensures { λ _. ⌜ now (out .exit) ≡ readOf 64 (now (bytes .entry)) configured (mayRead (stateOf flags))
-        (pointers .read) (pointers .write)
-        (now (out .entry)) .output ⌝ }
+    ensures { λ _. ⌜ now (out .exit) ≡ outputOf 64 (now (bytes .entry)) configured (mayRead (stateOf flags))
+        (pointers .read) (pointers .write) (now (out .entry)) ⌝ }
 {
     let taken = ring::read(bytes, configured, flags, pointers, out);
     let ring::Carried::Packet(size, next) = taken else {

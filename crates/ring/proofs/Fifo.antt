@@ -2,10 +2,11 @@
 -- those that stand in a ring already, in whichever states a ring may be read.
 -- Assumes nothing.
 use mathlib.Core.Path.{_≡_, refl, ap, sym, subst, _∙_}
-use mathlib.Core.Bool.{true, false}
+use mathlib.Core.Bool.{true, false, not}
 use mathlib.Core.List.{List, [], _∷_, _++_, append-assoc, append-nil}
 use Prim.Native.Nat.{ℕ, _+_, _≤_}
 use native.Mathlib.Omega.{arith}
+use borrow.Author.Tests.{le-leb, eq-eqb}
 use lib.ListN.{length, take, drop}
 use lib.Seq.{length-take-le, take-at, take-length}
 use Rattle.octets.specs.Bytes.{fronted}
@@ -16,13 +17,14 @@ use Rattle.mmbi.specs.Interface.{normalRuntime, stateOf, mayRead, mayWrite}
 use Rattle.mmbi.specs.Pointers.{pointerRight}
 use Rattle.mmbi.proofs.Pointers.{pointer-facts}
 use Rattle.ring.specs.Numbers.{setUpRight, pointersRight, filledOf, roomOf, nextOf}
-use Rattle.ring.specs.Packet.{wholeFor, ringBytes}
+use Rattle.ring.specs.Layout.{wholeFor, ringBytes}
 use Rattle.ring.specs.Reading as reading
 use Rattle.ring.specs.Runs.{allSized, spaceFor, allBytes, Kept, pointerAfter, wrote, writeAll, queued}
 use Rattle.ring.specs.Runs.{allReadable, andThen, readAll}
 use Rattle.ring.specs.Round.{roundFrom, stored}
 use Rattle.ring.specs.Writing as writing
 use Rattle.ring.proofs.Held.{Holds, holds-none, holds-written, holds-taken}
+use Rattle.ring.proofs.Numbers.{set-up-facts, set-up-holds, pointers-facts, pointers-holds}
 use Rattle.ring.proofs.Numbers.{filled-below, filled-empty, filled-room, filled-written}
 use Rattle.ring.proofs.Readings as readings
 use Rattle.ring.proofs.RoundTrip.{read-first, room-none}
@@ -44,7 +46,7 @@ module _ (most configured : ℕ) (flags : Flags) (may : mayWrite (stateOf flags)
   wrote-one kept held p h sized room =
       let b = within-bounds 5 (4 + most) (length p) sized in
       let next = nextOf configured (kept .write) (wholeFor (length p)) in
-      let e = writings.good-written most (length (kept .ring)) configured (mayWrite (stateOf flags)) read (kept .write)
+      let e = writings.good-entered most (length (kept .ring)) configured (mayWrite (stateOf flags)) read (kept .write)
       (length p) next
       (record {
         set-up = h .set-up;
@@ -57,7 +59,7 @@ module _ (most configured : ℕ) (flags : Flags) (may : mayWrite (stateOf flags)
         after = refl;
       }) in
       λ i. record {
-        ring = writing.ringOf (e i) (kept .ring) (kept .write) p;
+        ring = writing.ringAfter (e i) (kept .ring) (kept .write) p;
         write = pointerAfter (e i) (kept .write);
       }
 
@@ -92,7 +94,7 @@ module _ (most configured : ℕ) (flags : Flags) (may : mayWrite (stateOf flags)
 module _ (most configured : ℕ) (ring : List ℕ) (write : ℕ) where
   -- after the last packet the answer is EMPTY
   pub all-read-empty : (read output : ℕ) → Holds most configured ring read write [] → 4 + most ≤ output
-      → reading.takenOf most ring configured true read write output ≡ reading.empty
+      → reading.foundOf most ring configured true read write output ≡ reading.empty
   unfolding allBytes
   all-read-empty read output h room =
       let under = filled-below configured read write (h .from .below) (h .to .below) in
@@ -101,17 +103,18 @@ module _ (most configured : ℕ) (ring : List ℕ) (write : ℕ) where
       sym
       (length-take-le (filledOf configured read write) (roundFrom read ring) (omega (arith, round-length read ring)))
       ∙ ap length (h .bytes) in
-      readings.taken-empty most ring configured true read write output
-      (readings.set-up-holds most configured (length ring) (h .set-up)) room refl
-      (readings.pointers-holds configured read write (h .from) (h .to))
-      (filled-empty configured read write (h .from .below) (h .to .below) none)
+      let equal = filled-empty configured read write (h .from .below) (h .to .below) none in
+      let right = set-up-holds most configured (length ring) (h .set-up) in
+      let pointers = pointers-holds configured read write (h .from) (h .to) in
+      readings.found-failing most ring configured true read write output 4
+      (right, (le-leb (4 + most) output room, (refl, (pointers, ap not (eq-eqb read write equal)))))
 
   module _ (out : List ℕ) (room : 4 + most ≤ length out) where
     -- one read, where the state lets a ring be read
     one-read : (flags : Flags) (states : List Flags) (read : ℕ) → mayRead (stateOf flags) ≡ true
         → readAll most configured ring out write (flags ∷ states) read
-        ≡ andThen (reading.readOf most ring configured true read write out .says)
-        (reading.readOf most ring configured true read write out .output)
+        ≡ andThen (reading.foundOf most ring configured true read write (length out))
+        (reading.outputOf most ring configured true read write out)
         (readAll most configured ring out write states)
     unfolding readAll
     one-read flags states read may = rw may
@@ -126,16 +129,15 @@ module _ (most configured : ℕ) (ring : List ℕ) (write : ℕ) where
         let m = both (mayRead (stateOf flags)) (allReadable states) may in
         one-read flags states read (m .0)
         ∙ ap
-        (λ (s : reading.Said). andThen s (reading.outputOf s (roundFrom read ring) out)
+        (λ (f : reading.Found). andThen f (reading.outputAfter f (roundFrom read ring) out)
         (readAll most configured ring out write states))
         (all-read-empty read (length out) h room)
     all-read (flags ∷ states) read (p ∷ packets) h may =
         let m = both (mayRead (stateOf flags)) (allReadable states) may in
         let next = nextOf configured read (wholeFor (length p)) in
+        let first = read-first most configured ring read write packets p out h room in
         one-read flags states read (m .0)
-        ∙ ap
-        (λ (l : reading.Left). andThen (l .says) (l .output) (readAll most configured ring out write states))
-        (read-first most configured ring read write packets p out h room)
+        ∙ (λ i. andThen (first .0 i) (first .1 i) (readAll most configured ring out write states))
         ∙ ap (λ (q : List ℕ). q ∷ readAll most configured ring out write states next)
         (take-at p (drop (length p) out) (length p) refl)
         ∙ ap (λ (ps : List (List ℕ)). p ∷ ps)
@@ -157,10 +159,10 @@ module _ (most configured read : ℕ) (packets : List (List ℕ)) (states : List
       → take (filledOf configured read write) (roundFrom read ring) ≡ allBytes packets → length states ≡ length packets
       → readAll most configured ring out write states read ≡ packets
   filled-back ring write right pointers sized bytes many =
-      let p = readings.pointers-facts configured read write pointers in
+      let p = pointers-facts configured read write pointers in
       back ring write
       (record {
-        set-up = readings.set-up-facts most configured (length ring) right;
+        set-up = set-up-facts most configured (length ring) right;
         from = p .0;
         to = p .1;
         sized = sized;
@@ -175,7 +177,7 @@ module _ (most configured read : ℕ) (packets : List (List ℕ)) (states : List
       (queued most configured ring read packets .write) states read ≡ packets
   unfolding stateOf
   fifo ring right at sized fits many =
-      let set-up = readings.set-up-facts most configured (length ring) right in
+      let set-up = set-up-facts most configured (length ring) right in
       let pointer = pointer-facts configured read at in
       back (queued most configured ring read packets .ring) (queued most configured ring read packets .write)
       (all-written most configured normalRuntime refl read (record { ring = ring; write = read }) [] packets
@@ -187,8 +189,10 @@ module _ (most configured read : ℕ) (packets : List (List ℕ)) (states : List
 pub not-queued : (most : ℕ) (ring : List ℕ) (configured : ℕ) (flags : Flags) (read write : ℕ) (p : List ℕ)
     → setUpRight most configured (length ring) ≡ true → sizeRight most (length p) ≡ true
     → mayWrite (stateOf flags) ≡ false
-    → writing.writeOf most ring configured (mayWrite (stateOf flags)) read write p
-    ≡ writing.left (writing.refused 11) ring
+    → (writing.enteredOf most (length ring) configured (mayWrite (stateOf flags)) read write (length p)
+    ≡ writing.refused 11)
+    × (writing.writtenOf most ring configured (mayWrite (stateOf flags)) read write p ≡ ring)
 not-queued most ring configured flags read write p right sized closed =
-    ap (λ (s : writing.Said). writing.left s (writing.ringOf s ring write p))
-    (writings.put-11 most (length ring) configured (mayWrite (stateOf flags)) read write (length p) right sized closed)
+    let is = writings.entered-failing most (length ring) configured (mayWrite (stateOf flags)) read write (length p) 2
+    (right, (sized, closed)) in
+    (is, ap (λ (answer : writing.Entered). writing.ringAfter answer ring write p) is)

@@ -11,8 +11,8 @@ use lib.ListN.{length, getD, take, drop, replicate, length-append, length-drop, 
 use lib.Seq.{getD-drop, take-at, drop-at}
 use Rattle.octets.specs.Words.{Order, lowFirst, highFirst, wordAt, wordBytes}
 use Rattle.octets.proofs.Words.{word-back}
-use Rattle.ring.specs.Packet.{headerAt, paddingField, typeField, mctpType, wholeOf, sizeOf, packetOf, paddingFor}
-use Rattle.ring.specs.Packet.{wholeFor, headerFor, ringBytes}
+use Rattle.ring.specs.Layout.{headerAt, paddingField, typeField, mctpType, wholeOf, sizeOf, packetOf, paddingFor}
+use Rattle.ring.specs.Layout.{wholeFor, headerFor, ringBytes}
 use Rattle.ring.specs.Round.{roundFrom}
 
 pub word-length : (w : ℕ) → length (wordBytes highFirst w) ≡ 4
@@ -27,7 +27,8 @@ word-four lowFirst s t i j e = cc (simp add-zero at (e 0 (lit< tt)), e 1 (lit< t
 word-four highFirst s t i j e = cc (simp add-zero at (e 0 (lit< tt)), e 1 (lit< tt), e 2 (lit< tt), e 3 (lit< tt))
 
 -- a header's four bytes don't run over the ring's end
-pub header-straight : (ring : List ℕ) (p : ℕ) → p + 4 ≤ length ring → wordAt highFirst ring p ≡ headerAt (roundFrom p ring)
+pub header-straight : (ring : List ℕ) (p : ℕ) → p + 4 ≤ length ring
+    → wordAt highFirst ring p ≡ headerAt (roundFrom p ring)
 unfolding roundFrom
 header-straight ring p h =
     word-four highFirst ring (roundFrom p ring) p 0

@@ -12,17 +12,17 @@ use Rattle.octets.proofs.Choice.{both, within-bounds}
 use Rattle.octets.proofs.Laid.{laid-fits}
 use Rattle.mctp.specs.Packet.{sizeRight}
 use Rattle.ring.specs.Numbers.{filledOf, roomOf, nextOf}
-use Rattle.ring.specs.Packet.{headerAt, paddingField, typeField, wholeOf, sizeOf, packetOf, wholeFor, headerFor}
-use Rattle.ring.specs.Packet.{ringBytes}
+use Rattle.ring.specs.Layout.{headerAt, paddingField, typeField, wholeOf, sizeOf, packetOf, wholeFor, headerFor}
+use Rattle.ring.specs.Layout.{ringBytes}
 use Rattle.ring.specs.Runs.{allSized, allBytes}
 use Rattle.ring.specs.Round.{roundFrom, stored}
 use Rattle.ring.proofs.Headers.{header-padding, header-type, header-whole, header-size, header-back, packet-back}
 use Rattle.ring.proofs.Headers.{bytes-length}
 use Rattle.mmbi.proofs.Pointers.{Pointer}
-use Rattle.ring.proofs.Numbers.{filled-below, filled-near, filled-room, filled-written, filled-taken, next-right}
+use Rattle.ring.proofs.Numbers.{SetUp, filled-below, filled-near, filled-room, filled-written, filled-taken}
+use Rattle.ring.proofs.Numbers.{next-right}
 use Rattle.ring.proofs.Numbers.{next-filled}
-use Rattle.ring.proofs.Readings as readings
-use Rattle.ring.proofs.Readings.{SetUp}
+use Rattle.ring.proofs.Readings.{Good}
 use Rattle.ring.proofs.Rounds.{round-length, round-round, stored-length, stored-behind}
 
 -- the ring holds these packets, the first in first: what is filled are their bytes
@@ -40,7 +40,14 @@ unfolding allSized allBytes
 holds-none most configured ring pointer set-up p =
     let none : filledOf configured pointer pointer ≡ 0 =
     filled-near configured pointer pointer (omega arith) (p .below) ∙ omega arith in
-    record { set-up = set-up; from = p; to = p; sized = refl; bytes = ap (λ (n : ℕ). take n (roundFrom pointer ring)) none }
+    record {
+      set-up = set-up;
+      from = p;
+      to = p;
+      sized = refl;
+      bytes =
+          ap (λ (n : ℕ). take n (roundFrom pointer ring)) none;
+    }
 
 sized-more : (most : ℕ) (packets : List (List ℕ)) (p : List ℕ) → allSized most packets ≡ true
     → sizeRight most (length p) ≡ true → allSized most (packets ++ (p ∷ [])) ≡ true
@@ -89,7 +96,8 @@ module _ (configured : ℕ) (ring : List ℕ) (read write : ℕ) (same : configu
       let front = length-take-le f (roundFrom read ring) (omega (arith, round-length read ring)) in
       ap (take (f + length bytes)) (written-behind
       ∙ sym (append-assoc (take f (roundFrom read ring)) bytes (drop (f + length bytes) (roundFrom read ring))))
-      ∙ take-at (take f (roundFrom read ring) ++ bytes) (drop (f + length bytes) (roundFrom read ring)) (f + length bytes)
+      ∙ take-at (take f (roundFrom read ring) ++ bytes) (drop (f + length bytes) (roundFrom read ring))
+      (f + length bytes)
       (length-append (take f (roundFrom read ring)) bytes ∙ ap (λ (n : ℕ). n + length bytes) front)
 
 whole-fours : (n : ℕ) → wholeFor n % 4 ≡ 0
@@ -140,7 +148,8 @@ module _ (most configured : ℕ) (ring : List ℕ) (read write : ℕ) (packets :
   unfolding allBytes
   split = h .bytes
 
-  front : roundFrom read ring ≡ ringBytes p ++ (allBytes packets ++ drop (filledOf configured read write) (roundFrom read ring))
+  front : roundFrom read ring ≡ ringBytes p
+      ++ (allBytes packets ++ drop (filledOf configured read write) (roundFrom read ring))
   front =
       sym (take-append-drop (filledOf configured read write) (roundFrom read ring))
       ∙ ap (λ (s : List ℕ). s ++ drop (filledOf configured read write) (roundFrom read ring)) split
@@ -186,7 +195,7 @@ module _ (most configured : ℕ) (ring : List ℕ) (read write : ℕ) (packets :
   whole = ap wholeOf header ∙ header-whole (length p)
 
   pub held-good : (output : ℕ) → 4 + most ≤ output
-      → readings.Good most ring configured true read write output (length p)
+      → Good most ring configured true read write output (length p)
       (nextOf configured read (wholeFor (length p)))
   held-good output room =
       record {
@@ -202,15 +211,13 @@ module _ (most configured : ℕ) (ring : List ℕ) (read write : ℕ) (packets :
               ap (filledOf configured read) (sym e),
               filled-near configured read read (omega arith) (h .from .below),
             );
-        header = record {
-          held = omega (arith, whole, held);
-          counted = omega (arith, whole, ap paddingField header ∙ header-padding (length p));
-          ours = ap typeField header ∙ header-type (length p);
-          least = short .0;
-          largest = short .1;
-          sized = sym (ap sizeOf header ∙ header-size (length p));
-          on = ap (nextOf configured read) (sym whole);
-        };
+        held = omega (arith, whole, held);
+        counted = omega (arith, whole, ap paddingField header ∙ header-padding (length p));
+        ours = ap typeField header ∙ header-type (length p);
+        least = short .0;
+        largest = short .1;
+        sized = sym (ap sizeOf header ∙ header-size (length p));
+        on = ap (nextOf configured read) (sym whole);
       }
 
   -- and the others are left

@@ -10,10 +10,9 @@ use lib.ListN.{length, getD, take, drop, length-take, length-drop}
 use lib.Seq.{getD-take, getD-drop, ext-getD}
 use Rattle.octets.specs.Bytes.{fronted}
 use Rattle.octets.specs.Words.{value, wordAt}
-use Rattle.ring.specs.Numbers.{filledOf, nextOf}
-use Rattle.ring.specs.Packet.{headerAt, paddingField, typeField, wholeOf, sizeOf, packetOf}
-use Rattle.ring.specs.Reading.{Said, packet, empty, skipped, refused, judged, foundOf, takenOf, outputOf, left}
-use Rattle.ring.specs.Reading.{readOf}
+use Rattle.ring.specs.Numbers.{filledOf}
+use Rattle.ring.specs.Layout.{headerAt, paddingField, typeField, wholeOf, sizeOf, packetOf}
+use Rattle.ring.specs.Reading.{Found, packet, empty, skipped, refused, judged, foundOf, outputAfter, outputOf}
 use Rattle.ring.specs.Round.{roundFrom}
 use Rattle.ring.proofs.Readings.{good, good-short}
 use Rattle.ring.proofs.Rounds.{round-length}
@@ -51,9 +50,10 @@ module _ (s t : List ℕ) (h : SameHeader s t) where
       (sym (div-div-eq-div-mul (headerAt s) 256 4) ∙ ap (λ (n : ℕ). n / 4) same-high
       ∙ div-div-eq-div-mul (headerAt t) 256 4)
 
-  same-judged : (most filled next : ℕ) → judged most filled (headerAt s) next ≡ judged most filled (headerAt t) next
+  same-judged : (most configured read filled : ℕ)
+      → judged most configured read filled (headerAt s) ≡ judged most configured read filled (headerAt t)
   unfolding judged
-  same-judged most filled next = rw (same-whole, same-padding, same-type)
+  same-judged most configured read filled = rw (same-whole, same-padding, same-type)
 
 -- as many bytes from place 4 on, where they agree
 same-part : (s t : List ℕ) (n : ℕ) → 4 + n ≤ length s → length s ≡ length t
@@ -70,55 +70,47 @@ same-part s t n h l e =
     ∙ sym (getD-take n (drop 4 t) k 0 inside ∙ getD-drop 4 t k 0))
 
 -- the output asks only for the packet
-same-output : (said : Said) (s t out : List ℕ) → ((size next : ℕ) → said ≡ packet size next → packetOf s ≡ packetOf t)
-    → outputOf said s out ≡ outputOf said t out
-same-output (packet size next) s t out e = ap (fronted out) (e size next refl)
-same-output empty s t out e = refl
-same-output (skipped number next) s t out e = refl
-same-output (refused number) s t out e = refl
+same-after : (found : Found) (s t out : List ℕ)
+    → ((size next : ℕ) → found ≡ packet size next → packetOf s ≡ packetOf t)
+    → outputAfter found s out ≡ outputAfter found t out
+same-after (packet size next) s t out e = ap (fronted out) (e size next refl)
+same-after empty s t out e = refl
+same-after (skipped number next) s t out e = refl
+same-after (refused number) s t out e = refl
 
 module _ (most : ℕ) (a b : List ℕ) (configured : ℕ) (readable : Bool) (read write : ℕ) (same : length a ≡ length b)
     (h : SameHeader (roundFrom read a) (roundFrom read b)) where
-  same-found : foundOf most a read write ≡ foundOf most b read write
-  same-found =
-      same-judged (roundFrom read a) (roundFrom read b) h most (filledOf (length a) read write)
-      (nextOf (length a) read (wholeOf (headerAt (roundFrom read a))))
-      ∙ ap (λ (n : ℕ). judged most (filledOf (length a) read write) (headerAt (roundFrom read b))
-      (nextOf (length a) read n)) (same-whole (roundFrom read a) (roundFrom read b) h)
-      ∙ ap (λ (n : ℕ). judged most (filledOf n read write) (headerAt (roundFrom read b))
-      (nextOf n read (wholeOf (headerAt (roundFrom read b))))) same
-
   -- two rings that differ only in reserved bits and after the header get one answer
-  pub same-taken : (output : ℕ) → takenOf most a configured readable read write output
-      ≡ takenOf most b configured readable read write output
-  unfolding takenOf
-  same-taken output = rw (same-found, same)
+  pub same-found : (output : ℕ) → foundOf most a configured readable read write output
+      ≡ foundOf most b configured readable read write output
+  unfolding foundOf
+  same-found output =
+      rw (
+        same,
+        same-judged (roundFrom read a) (roundFrom read b) h most configured read (filledOf configured read write),
+      )
 
   -- and if they agree in the packet, where there is one, one output: padding and the bytes outside the packet don't
   -- matter
-  pub same-read : (out : List ℕ)
-      → ((size next : ℕ) → takenOf most a configured readable read write (length out) ≡ packet size next → (k : ℕ)
+  pub same-output : (out : List ℕ)
+      → ((size next : ℕ) → foundOf most a configured readable read write (length out) ≡ packet size next → (k : ℕ)
       → k < size → getD (roundFrom read a) (4 + k) 0 ≡ getD (roundFrom read b) (4 + k) 0)
-      → readOf most a configured readable read write out ≡ readOf most b configured readable read write out
+      → outputOf most a configured readable read write out ≡ outputOf most b configured readable read write out
   unfolding packetOf
-  same-read out e =
+  same-output out e =
       let s = roundFrom read a in
       let t = roundFrom read b in
-      let agree : (size next : ℕ) → takenOf most a configured readable read write (length out) ≡ packet size next
+      let agree : (size next : ℕ) → foundOf most a configured readable read write (length out) ≡ packet size next
       → packetOf s ≡ packetOf t =
-      λ (size next : ℕ) (q : takenOf most a configured readable read write (length out) ≡ packet size next).
+      λ (size next : ℕ) (q : foundOf most a configured readable read write (length out) ≡ packet size next).
       let g = good most a configured readable read write (length out) size next q in
       let room = good-short most a configured readable read write (length out) size next g in
       let whole = same-whole s t h in
       let pad = same-padding s t h in
       let sizes : sizeOf (headerAt s) ≡ sizeOf (headerAt t) = omega arith in
-      ap (λ (n : ℕ). take n (drop 4 s)) (sym (g .header .sized))
+      ap (λ (n : ℕ). take n (drop 4 s)) (sym (g .sized))
       ∙ same-part s t size (omega (arith, room, round-length read a))
       (round-length read a ∙ same ∙ sym (round-length read b)) (e size next q)
-      ∙ ap (λ (n : ℕ). take n (drop 4 t)) (g .header .sized ∙ sizes) in
-      let says = same-taken (length out) in
-      let output : outputOf (takenOf most a configured readable read write (length out)) s out
-      ≡ outputOf (takenOf most b configured readable read write (length out)) t out =
-      same-output (takenOf most a configured readable read write (length out)) s t out agree
-      ∙ ap (λ (n : Said). outputOf n t out) says in
-      λ i. left (says i) (output i)
+      ∙ ap (λ (n : ℕ). take n (drop 4 t)) (g .sized ∙ sizes) in
+      same-after (foundOf most a configured readable read write (length out)) s t out agree
+      ∙ ap (λ (f : Found). outputAfter f t out) (same-found (length out))

@@ -1,14 +1,14 @@
-pub mod Past
 pub mod Numbers
 pub mod Rounds
 pub mod Headers
 pub mod Readings
 pub mod Writings
+pub mod Answers
 pub mod Held
 pub mod RoundTrip
 pub mod Fifo
+pub mod Layouts
 pub mod Ignored
 pub mod Literal
-pub mod Determined
-pub mod Made
 pub mod Order
+pub mod Determined

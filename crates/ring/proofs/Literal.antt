@@ -12,7 +12,7 @@ use Rattle.mmbi.specs.Interface.{flagsOf, normalRuntime, askedByHost, askedByCo
 use Rattle.mmbi.specs.Interface.{mayRead, mayWrite}
 use Rattle.mmbi.proofs.States.{sixteen}
 use Rattle.ring.specs.Numbers.{filledOf, roomOf, nextOf}
-use Rattle.ring.specs.Packet.{packetOf, headerFor, ringBytes}
+use Rattle.ring.specs.Layout.{packetOf, headerFor, ringBytes}
 use Rattle.ring.specs.Reading as reading
 use Rattle.ring.specs.Runs.{Kept, wrote, writeAll, queued, readAll}
 use Rattle.ring.specs.Round.{roundFrom, stored}
@@ -34,40 +34,42 @@ image-bytes = refl
 abbrev pub written : List ℕ
 written = 0 ∷ 0 ∷ 0 ∷ 0 ∷ replicate 116 238 ++ (0 ∷ 0 ∷ 11 ∷ 4 ∷ 1 ∷ 9 ∷ 10 ∷ 200 ∷ [])
 
-pub image-written : writing.writeOf 64 (replicate 128 238) 128 true 120 120 packet
-    ≡ writing.left (writing.written 4) written
-unfolding writing.putOf filledOf roomOf nextOf roundFrom stored fronted ringBytes headerFor wordBytes
-image-written = refl
+pub image-written : (writing.enteredOf 64 128 128 true 120 120 5 ≡ writing.entered 4)
+    × (writing.writtenOf 64 (replicate 128 238) 128 true 120 120 packet ≡ written)
+unfolding writing.enteredOf filledOf roomOf nextOf roundFrom stored fronted ringBytes headerFor wordBytes
+image-written = (refl, refl)
 
-pub image-read : reading.readOf 64 written 128 true 120 4 (replicate 68 170)
-    ≡ reading.left (reading.packet 5 4) (packet ++ replicate 63 170)
-unfolding reading.takenOf reading.judged filledOf nextOf roundFrom fronted packetOf wordAt
-image-read = refl
+pub image-read : (reading.foundOf 64 written 128 true 120 4 68 ≡ reading.packet 5 4)
+    × (reading.outputOf 64 written 128 true 120 4 (replicate 68 170) ≡ packet ++ replicate 63 170)
+unfolding reading.foundOf reading.judged filledOf nextOf roundFrom fronted packetOf wordAt
+image-read = (refl, refl)
 
 -- the same packet of another maker: reserved bits set (F4), padding AA BB CC
-pub foreign-read : reading.readOf 64
-    (0 ∷ 0 ∷ 11 ∷ 244 ∷ 1 ∷ 9 ∷ 10 ∷ 200 ∷ 0 ∷ 170 ∷ 187 ∷ 204 ∷ replicate 116 238) 128 true 0 12 (replicate 68 170)
-    ≡ reading.left (reading.packet 5 12) (packet ++ replicate 63 170)
-unfolding reading.takenOf reading.judged filledOf nextOf roundFrom fronted packetOf wordAt
-foreign-read = refl
+abbrev foreign : List ℕ
+foreign = 0 ∷ 0 ∷ 11 ∷ 244 ∷ 1 ∷ 9 ∷ 10 ∷ 200 ∷ 0 ∷ 170 ∷ 187 ∷ 204 ∷ replicate 116 238
+
+pub foreign-read : (reading.foundOf 64 foreign 128 true 0 12 68 ≡ reading.packet 5 12)
+    × (reading.outputOf 64 foreign 128 true 0 12 (replicate 68 170) ≡ packet ++ replicate 63 170)
+unfolding reading.foundOf reading.judged filledOf nextOf roundFrom fronted packetOf wordAt
+foreign-read = (refl, refl)
 
 -- PKT_LEN 0 is the header alone: with no padding 3 or 14, and the pointer moves on by four; with padding that it can't
 -- hold, 13
-pub header-alone : reading.takenOf 64 (0 ∷ 0 ∷ 0 ∷ 4 ∷ replicate 124 238) 128 true 0 12 68 ≡ reading.skipped 3 4
-unfolding reading.takenOf reading.judged filledOf nextOf roundFrom wordAt
+pub header-alone : reading.foundOf 64 (0 ∷ 0 ∷ 0 ∷ 4 ∷ replicate 124 238) 128 true 0 12 68 ≡ reading.skipped 3 4
+unfolding reading.foundOf reading.judged filledOf nextOf roundFrom wordAt
 header-alone = refl
 
-pub other-alone : reading.takenOf 64 (0 ∷ 0 ∷ 0 ∷ 5 ∷ replicate 124 238) 128 true 0 12 68 ≡ reading.skipped 14 4
-unfolding reading.takenOf reading.judged filledOf nextOf roundFrom wordAt
+pub other-alone : reading.foundOf 64 (0 ∷ 0 ∷ 0 ∷ 5 ∷ replicate 124 238) 128 true 0 12 68 ≡ reading.skipped 14 4
+unfolding reading.foundOf reading.judged filledOf nextOf roundFrom wordAt
 other-alone = refl
 
-pub padding-alone : reading.takenOf 64 (0 ∷ 0 ∷ 1 ∷ 4 ∷ replicate 124 238) 128 true 0 12 68 ≡ reading.refused 13
-unfolding reading.takenOf reading.judged filledOf nextOf roundFrom wordAt
+pub padding-alone : reading.foundOf 64 (0 ∷ 0 ∷ 1 ∷ 4 ∷ replicate 124 238) 128 true 0 12 68 ≡ reading.refused 13
+unfolding reading.foundOf reading.judged filledOf nextOf roundFrom wordAt
 padding-alone = refl
 
 -- in each of the sixteen flag states, from 0000 to 1111: read in 1010, 1011 and 1110, written in 1010
 pub read-by-state :
-    map (λ (f : Flags). reading.takenOf 64 written 128 (mayRead (stateOf f)) 120 4 68) sixteen
+    map (λ (f : Flags). reading.foundOf 64 written 128 (mayRead (stateOf f)) 120 4 68) sixteen
     ≡ replicate 10 (reading.refused 11)
     ++ (reading.packet 5 4
     ∷ reading.packet 5 4
@@ -76,13 +78,13 @@ pub read-by-state :
     ∷ reading.packet 5 4
     ∷ reading.refused 11
     ∷ [])
-unfolding stateOf reading.takenOf reading.judged filledOf nextOf roundFrom wordAt
+unfolding stateOf reading.foundOf reading.judged filledOf nextOf roundFrom wordAt
 read-by-state = refl
 
 pub written-by-state :
-    map (λ (f : Flags). writing.putOf 64 128 128 (mayWrite (stateOf f)) 120 4 5) sixteen
-    ≡ replicate 10 (writing.refused 11) ++ (writing.written 16 ∷ replicate 5 (writing.refused 11))
-unfolding stateOf writing.putOf filledOf roomOf nextOf
+    map (λ (f : Flags). writing.enteredOf 64 128 128 (mayWrite (stateOf f)) 120 4 5) sixteen
+    ≡ replicate 10 (writing.refused 11) ++ (writing.entered 16 ∷ replicate 5 (writing.refused 11))
+unfolding stateOf writing.enteredOf filledOf roomOf nextOf
 written-by-state = refl
 
 -- three packets queued in a ring of bytes EE from byte 100 on, the third over the end
@@ -105,7 +107,8 @@ threeKept =
     }
 
 pub three-queued : queued 64 128 (replicate 128 238) 100 three ≡ threeKept
-unfolding stateOf writeAll wrote writing.putOf filledOf roomOf nextOf roundFrom stored fronted ringBytes headerFor wordBytes
+unfolding stateOf writeAll wrote writing.enteredOf filledOf roomOf nextOf roundFrom stored fronted ringBytes headerFor
+    wordBytes
 three-queued = refl
 
 -- read back while the host asks for a reset, and while the controller does; one in normal runtime, one while the host
@@ -117,12 +120,12 @@ pub three-read :
     ∷ (normalRuntime ∷ askedByHost ∷ flagsOf true true true true ∷ [])
     ∷ [])
     ≡ three ∷ three ∷ (small 1 ∷ small 2 ∷ []) ∷ []
-unfolding stateOf readAll reading.takenOf reading.judged filledOf nextOf roundFrom fronted packetOf wordAt
+unfolding stateOf readAll reading.foundOf reading.judged filledOf nextOf roundFrom fronted packetOf wordAt
 three-read = refl
 
 -- a fourth that comes then isn't written
 pub three-stay :
     map (λ (f : Flags). writeAll 64 128 f 100 threeKept (small 4 ∷ [])) (askedByHost ∷ askedByController ∷ [])
     ≡ threeKept ∷ threeKept ∷ []
-unfolding stateOf writeAll wrote writing.putOf
+unfolding stateOf writeAll wrote writing.enteredOf
 three-stay = refl

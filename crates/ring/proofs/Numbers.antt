@@ -1,8 +1,8 @@
--- A ring's numbers: filled and next below the length and at the ring's end, and how they move with each other.
--- Only the first laws look inside `%`.
+-- A ring's numbers: filled and next below the length and at the ring's end, how they move with each other, and what
+-- the tests of set-up and pointers say. Only the first laws look inside `%`.
 -- Assumes nothing.
 use mathlib.Core.Path.{_≡_, refl, ap, sym, _∙_}
-use mathlib.Core.Bool.{true}
+use mathlib.Core.Bool.{true, _&&_}
 use mathlib.Core.Logic.{_⊎_, inl, inr, ⊎-elim, by-cases}
 use Prim.Native.Nat.{ℕ, _+_, _-_, _%_, _≤_, _<_}
 use native.Mathlib.Nat.{mod-lt, mod-eq-of-lt, mod-eq-sub-mod, mod-add-mod, add-assoc}
@@ -10,26 +10,11 @@ use native.Mathlib.Decide.{decLt}
 use native.Mathlib.Omega.{arith}
 use borrow.Author.Tests.{eqb-true, eq-eqb}
 use lib.Dec.{eqb}
-use Rattle.octets.specs.Choice.{within}
 use Rattle.octets.proofs.Choice.{both, within-bounds, within-holds}
-use Rattle.mmbi.proofs.Pointers.{Pointer}
-use Rattle.mmbi.specs.Pointers.{lengthRight}
-use Rattle.ring.specs.Numbers.{filledOf, roomOf, nextOf}
-
--- a length inside the rule, as numbers
-pub record Length (length : ℕ) : Type 0 where
-  pub low : 128 ≤ length
-  pub high : length ≤ 65536
-  pub fours : length % 4 ≡ 0
-
-pub length-facts : (length : ℕ) → lengthRight length ≡ true → Length length
-length-facts length e =
-    let h = both (within 128 65536 length) (eqb (length % 4) 0) e in
-    let b = within-bounds 128 65536 length (h .0) in
-    record { low = b .0; high = b .1; fours = eqb-true (length % 4) 0 (h .1) }
-
-pub length-holds : (length : ℕ) → Length length → lengthRight length ≡ true
-length-holds length h = rw (within-holds 128 65536 length (h .low) (h .high), eq-eqb (length % 4) 0 (h .fours))
+use Rattle.mctp.specs.Packet.{bodyRight}
+use Rattle.mmbi.specs.Pointers.{lengthRight, pointerRight}
+use Rattle.mmbi.proofs.Pointers.{Length, length-facts, length-holds, Pointer, pointer-facts, pointer-holds}
+use Rattle.ring.specs.Numbers.{setUpRight, pointersRight, filledOf, roomOf, nextOf}
 
 module _ (length pointer : ℕ) (n : ℕ) where
   pub next-near : pointer + n < length → nextOf length pointer n ≡ pointer + n
@@ -161,6 +146,39 @@ module _ (length read write : ℕ) (l : Length length) (r : Pointer length read)
   full-not-empty full e =
       let none : filledOf length read read ≡ 0 = filled-near length read read (omega arith) (r .below) ∙ omega arith in
       omega (arith, filled-room, none, ap (filledOf length read) e, l .low)
+
+-- what 1 lets through
+pub record SetUp (most configured lent : ℕ) : Type 0 where
+  pub low : 64 ≤ most
+  pub high : most ≤ 246
+  pub size : Length configured
+  pub same : configured ≡ lent
+
+pub set-up-facts : (most configured lent : ℕ) → setUpRight most configured lent ≡ true → SetUp most configured lent
+set-up-facts most configured lent e =
+    let h = both (bodyRight most && lengthRight configured) (eqb configured lent) e in
+    let k = both (bodyRight most) (lengthRight configured) (h .0) in
+    let m = within-bounds 64 246 most (k .0) in
+    record { low = m .0; high = m .1; size = length-facts configured (k .1); same = eqb-true configured lent (h .1) }
+
+pub set-up-holds : (most configured lent : ℕ) → SetUp most configured lent → setUpRight most configured lent ≡ true
+set-up-holds most configured lent h =
+    rw (
+      within-holds 64 246 most (h .low) (h .high),
+      length-holds configured (h .size),
+      eq-eqb configured lent (h .same),
+    )
+
+-- what 12 lets through
+pub pointers-facts : (configured read write : ℕ) → pointersRight configured read write ≡ true
+    → Pointer configured read × Pointer configured write
+pointers-facts configured read write e =
+    let h = both (pointerRight configured read) (pointerRight configured write) e in
+    (pointer-facts configured read (h .0), pointer-facts configured write (h .1))
+
+pub pointers-holds : (configured read write : ℕ) → Pointer configured read → Pointer configured write
+    → pointersRight configured read write ≡ true
+pointers-holds configured read write r w = rw (pointer-holds configured read r, pointer-holds configured write w)
 
 -- a ring of 256 bytes: filled over its end, empty, and full (document 01's own numbers stand in the demands' list)
 pub numbers-over : (filledOf 256 200 40 ≡ 96) × (roomOf 256 200 40 ≡ 156)

@@ -1,14 +1,15 @@
--- A ring read round from a pointer: its length, there and back, one round after the other, and bytes stored behind what is filled.
+-- A ring read round from a pointer: its length, there and back, one round after the other, bytes stored behind what is
+-- filled, and what is copied in one run or in two.
 -- Assumes nothing.
 use mathlib.Core.Path.{_≡_, ap, sym, _∙_}
 use mathlib.Core.List.{List, _++_, append-assoc, append-nil}
 use mathlib.Core.Logic.{⊎-elim}
 use Prim.Native.Nat.{ℕ, _+_, _-_, _≤_, _<_}
-use native.Mathlib.Nat.{zero-add}
+use native.Mathlib.Nat.{zero-add, sub-zero, add-sub-cancel-left}
 use native.Mathlib.Omega.{arith}
 use lib.ListN.{length, take, drop, length-append, length-take, length-drop, take-append-drop}
 use lib.Seq.{take-append-le, drop-append-le, take-append-add, drop-append-add, take-take, drop-drop, take-add, take-at}
-use lib.Seq.{drop-at, length-take-le}
+use lib.Seq.{drop-at, take-all, length-take-le}
 use Rattle.octets.specs.Bytes.{laid, fronted}
 use Rattle.octets.proofs.Laid.{laid-fits, laid-front, laid-append, laid-length}
 use Rattle.ring.specs.Numbers.{nextOf}
@@ -75,9 +76,12 @@ module _ (ring : List ℕ) (p n : ℕ) (below : p < length ring) (fits : n ≤ l
       (next-cases (length ring) p n below fits)
 
 -- two rings that are equal once rounded are equal
-pub round-injective : (p : ℕ) (a b : List ℕ) → p ≤ length a → length a ≡ length b → roundFrom p a ≡ roundFrom p b → a ≡ b
+pub round-injective : (p : ℕ) (a b : List ℕ) → p ≤ length a → length a ≡ length b → roundFrom p a ≡ roundFrom p b
+    → a ≡ b
 round-injective p a b h l e =
-    sym (round-back p a h) ∙ ap (λ (s : List ℕ). roundFrom (length a - p) s) e ∙ ap (λ (n : ℕ). roundFrom (n - p) (roundFrom p b)) l
+    sym (round-back p a h)
+    ∙ ap (λ (s : List ℕ). roundFrom (length a - p) s) e
+    ∙ ap (λ (n : ℕ). roundFrom (n - p) (roundFrom p b)) l
     ∙ round-back p b (omega arith)
 
 pub fronted-length : (out bytes : List ℕ) → length bytes ≤ length out → length (fronted out bytes) ≡ length out
@@ -170,10 +174,15 @@ stored-straight ring p bytes h k =
     ∙ round-none (stored ring (nextOf (length ring) 0 p) bytes)
     ∙ ap (λ (q : ℕ). stored ring q bytes) (next-near (length ring) 0 p (omega arith) ∙ zero-add p)
 
--- what runs over the end is stored in two
+-- `&s[m..]`, as it is lent
+lent-rest : (s : List ℕ) (m : ℕ) → take (length s - m) (drop m s) ≡ drop m s
+lent-rest s m = take-all (length s - m) (drop m s) (omega (arith, length-drop m s))
+
+-- what runs over the end is stored in two, as the two are lent
 pub stored-round : (ring : List ℕ) (p : ℕ) (bytes : List ℕ) → p < length ring → length bytes ≤ length ring
     → length ring - p < length bytes
-    → laid (laid ring p (take (length ring - p) bytes)) 0 (drop (length ring - p) bytes) ≡ stored ring p bytes
+    → laid (laid ring p (take (length ring - p - 0) (drop 0 bytes))) 0
+    (take (length bytes - (length ring - p)) (drop (length ring - p) bytes)) ≡ stored ring p bytes
 stored-round ring p bytes h k over =
     let m = length ring - p in
     let first : length (take m bytes) ≡ m = length-take-le m bytes (omega arith) in
@@ -181,24 +190,44 @@ stored-round ring p bytes h k over =
     let size = stored-length ring p (take m bytes) (omega arith) in
     let front : nextOf (length ring) p (length (take m bytes)) ≡ 0 =
     next-over (length ring) p (length (take m bytes)) (omega arith) (omega arith) ∙ omega arith in
-    ap (λ (s : List ℕ). laid s 0 (drop m bytes)) (stored-straight ring p (take m bytes) h (omega arith))
+    rw (lent-rest bytes m, sub-zero m)
+    (ap (λ (s : List ℕ). laid s 0 (drop m bytes)) (stored-straight ring p (take m bytes) h (omega arith))
     ∙ stored-straight (stored ring p (take m bytes)) 0 (drop m bytes) (omega arith) (omega arith)
     ∙ ap (λ (q : ℕ). stored (stored ring p (take m bytes)) q (drop m bytes)) (sym front)
     ∙ stored-stored ring p h (take m bytes) (drop m bytes) (omega arith)
-    ∙ ap (stored ring p) (take-append-drop m bytes)
+    ∙ ap (stored ring p) (take-append-drop m bytes))
 
--- a packet that ends before the ring's end is copied in one run
-pub taken-straight : (ring : List ℕ) (p n : ℕ) → p + n ≤ length ring → take n (roundFrom p ring) ≡ take n (drop p ring)
-unfolding roundFrom
-taken-straight ring p n h = take-append-le n (drop p ring) (take p ring) (omega (arith, length-drop p ring))
+-- so many bytes of the ring, laid to the front
+to-front : (ring : List ℕ) (p n : ℕ) (out : List ℕ) → n ≤ length ring → n ≤ length out
+    → laid out 0 (take n (roundFrom p ring)) ≡ fronted out (take n (roundFrom p ring))
+to-front ring p n out h k =
+    laid-front out (take n (roundFrom p ring))
+    (omega (arith, length-take n (roundFrom p ring), round-length p ring))
 
--- one that runs over the end in two
-pub taken-round : (ring : List ℕ) (p n : ℕ) → p ≤ length ring → n ≤ length ring → length ring < p + n
-    → take n (roundFrom p ring) ≡ drop p ring ++ take (n - (length ring - p)) ring
+-- what ends before the ring's end is copied in one run
+pub copied-straight : (ring : List ℕ) (p n : ℕ) (out : List ℕ) → p + n ≤ length ring → n ≤ length out
+    → laid out 0 (take (p + n - p) (drop p ring)) ≡ fronted out (take n (roundFrom p ring))
 unfolding roundFrom
-taken-round ring p n h k over =
+copied-straight ring p n out h k =
+    rw (add-sub-cancel-left p n)
+    (ap (laid out 0) (sym (take-append-le n (drop p ring) (take p ring) (omega (arith, length-drop p ring))))
+    ∙ to-front ring p n out (omega arith) k)
+
+-- what runs over the end in two
+pub copied-round : (ring : List ℕ) (p n : ℕ) (out : List ℕ) → p ≤ length ring → n ≤ length ring → n ≤ length out
+    → length ring < p + n
+    → laid (laid out 0 (take (length ring - p) (drop p ring))) (length ring - p)
+    (take (n - (length ring - p) - 0) (drop 0 ring)) ≡ fronted out (take n (roundFrom p ring))
+unfolding roundFrom
+copied-round ring p n out h k l over =
+    let rest = drop p ring in
     let m = n - (length ring - p) in
-    let split : n ≡ length (drop p ring) + m = omega (arith, length-drop p ring) in
-    ap (λ (j : ℕ). take j (drop p ring ++ take p ring)) split
-    ∙ take-append-add (drop p ring) (take p ring) m
-    ∙ ap (λ (s : List ℕ). drop p ring ++ s) (take-take m p ring (omega arith))
+    let long : length ring - p ≡ 0 + length rest = omega (arith, length-drop p ring) in
+    let split : length rest + m ≡ n = omega (arith, length-drop p ring) in
+    rw (lent-rest ring p, sub-zero m)
+    (ap (λ (j : ℕ). laid (laid out 0 rest) j (take m ring)) long
+    ∙ sym (laid-append out 0 rest (take m ring))
+    ∙ ap (λ (s : List ℕ). laid out 0 (rest ++ s)) (sym (take-take m p ring (omega arith)))
+    ∙ ap (laid out 0) (sym (take-append-add rest (take p ring) m))
+    ∙ ap (λ (j : ℕ). laid out 0 (take j (roundFrom p ring))) split
+    ∙ to-front ring p n out k l)

@@ -1,6 +1,7 @@
 pub mod Numbers
 pub mod Round
-pub mod Packet
+pub mod Layout
 pub mod Reading
 pub mod Writing
+pub mod Answers
 pub mod Runs

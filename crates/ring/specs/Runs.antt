@@ -7,7 +7,7 @@ use lib.ListN.{length, take, replicate}
 use Rattle.mctp.specs.Packet.{sizeRight}
 use Rattle.mmbi.specs.declared.interface.Flags.{Flags}
 use Rattle.mmbi.specs.Interface.{normalRuntime, stateOf, mayRead, mayWrite}
-use Rattle.ring.specs.Packet.{wholeFor, ringBytes}
+use Rattle.ring.specs.Layout.{wholeFor, ringBytes}
 use Rattle.ring.specs.Reading as reading
 use Rattle.ring.specs.Round.{stored}
 use Rattle.ring.specs.Writing as writing
@@ -37,29 +37,28 @@ pub record Kept : Type 0 where
   pub write : ℕ
 
 -- the write pointer after an answer; a refusal leaves it
-abbrev pub pointerAfter : writing.Said → ℕ → ℕ
-pointerAfter (writing.written next) write = next
+abbrev pub pointerAfter : writing.Entered → ℕ → ℕ
+pointerAfter (writing.entered next) write = next
 pointerAfter (writing.refused number) write = write
 
 -- one packet written under these flags, whatever the answer
-unfoldable pub wrote : ℕ → ℕ → Flags → ℕ → Kept → List ℕ → Kept
+unfoldable pub wrote : (most configured : ℕ) (flags : Flags) (read : ℕ) (kept : Kept) (p : List ℕ) → Kept
 wrote most configured flags read kept p =
+    let running = mayWrite (stateOf flags) in
+    let answer = writing.enteredOf most (length (kept .ring)) configured running read (kept .write) (length p) in
     record {
-      ring = writing.writeOf most (kept .ring) configured (mayWrite (stateOf flags)) read (kept .write) p .ring;
-      write =
-          pointerAfter
-          (writing.writeOf most (kept .ring) configured (mayWrite (stateOf flags)) read (kept .write) p .says)
-          (kept .write);
+      ring = writing.writtenOf most (kept .ring) configured running read (kept .write) p;
+      write = pointerAfter answer (kept .write);
     }
 
 -- packets written one after the other
-unfoldable pub writeAll : ℕ → ℕ → Flags → ℕ → Kept → List (List ℕ) → Kept
+unfoldable pub writeAll : (most configured : ℕ) (flags : Flags) (read : ℕ) → Kept → List (List ℕ) → Kept
 writeAll most configured flags read kept [] = kept
 writeAll most configured flags read kept (p ∷ packets) =
     writeAll most configured flags read (wrote most configured flags read kept p) packets
 
 -- packets queued in normal runtime, from a pointer on at which the ring is empty
-abbrev pub queued : ℕ → ℕ → List ℕ → ℕ → List (List ℕ) → Kept
+abbrev pub queued : (most configured : ℕ) (ring : List ℕ) (pointer : ℕ) → List (List ℕ) → Kept
 queued most configured ring pointer packets =
     writeAll most configured normalRuntime pointer (record { ring = ring; write = pointer }) packets
 
@@ -70,16 +69,18 @@ allReadable (flags ∷ states) = mayRead (stateOf flags) && allReadable states
 
 -- a packet taken from the output's front, and then what is read from the pointer after it; nothing where there is no
 -- packet
-abbrev pub andThen : reading.Said → List ℕ → (ℕ → List (List ℕ)) → List (List ℕ)
+abbrev pub andThen : reading.Found → List ℕ → (ℕ → List (List ℕ)) → List (List ℕ)
 andThen (reading.packet size next) output rest = take size output ∷ rest next
 andThen reading.empty output rest = []
 andThen (reading.skipped number next) output rest = []
 andThen (reading.refused number) output rest = []
 
 -- packets read one after the other, one read in each of these flag states
-unfoldable pub readAll : ℕ → ℕ → List ℕ → List ℕ → ℕ → List Flags → ℕ → List (List ℕ)
+unfoldable pub readAll : (most configured : ℕ) (ring out : List ℕ) (write : ℕ) → List Flags → (read : ℕ)
+    → List (List ℕ)
 readAll most configured ring out write [] read = []
 readAll most configured ring out write (flags ∷ states) read =
-    andThen (reading.readOf most ring configured (mayRead (stateOf flags)) read write out .says)
-    (reading.readOf most ring configured (mayRead (stateOf flags)) read write out .output)
+    let readable = mayRead (stateOf flags) in
+    andThen (reading.foundOf most ring configured readable read write (length out))
+    (reading.outputOf most ring configured readable read write out)
     (readAll most configured ring out write states)

@@ -8,28 +8,66 @@ use mmbi::Pointers;
 ghost use mathlib.Core.Path.{_≡_};
 ghost use Prim.Native.Nat.{_+_, _≤_, _<_};
 ghost use lib.ListN.{length};
-ghost use Rattle.octets.specs.Bytes.{laid};
-ghost use Rattle.octets.specs.Words.{highFirst, wordBytes};
 ghost use Rattle.mmbi.specs.Interface.{stateOf, mayWrite};
-ghost use Rattle.ring.specs.Packet.{paddingFor, wholeFor, headerFor, ringBytes};
+ghost use Rattle.ring.specs.Layout.{paddingFor, wholeFor, headerFor, ringBytes};
 ghost use Rattle.ring.specs.Round.{stored};
-ghost use Rattle.ring.specs.Writing.{saidOf, putOf, writeOf, left};
+ghost use Rattle.ring.specs.Writing.{enteredOf, writtenOf};
+ghost use Rattle.ring.specs.Answers.{enteredIn};
 
-// "padding to a multiple of 4", for a packet of `size` bytes.
-fn padding_for(size: usize) -> usize
-    ensures { λ r. ⌜ r ≡ paddingFor size ⌝ }
+// A packet put into the ring at the write pointer; 11 unless the interface is in normal runtime.
+pub fn write(
+    ring: &mut [u8],
+    configured: usize,
+    flags: Flags,
+    pointers: Pointers,
+    packet: &[u8],
+) -> Written
+    ensures answer { λ r. ⌜ enteredIn r ≡ enteredOf 64 (length (now (ring .entry))) configured
+        (mayWrite (stateOf flags)) (pointers .read) (pointers .write) (length (now (packet .entry))) ⌝ }
+    ensures ring { λ _. ⌜ now (ring .exit) ≡ writtenOf 64 (now (ring .entry)) configured (mayWrite (stateOf flags))
+        (pointers .read) (pointers .write) (now (packet .entry)) ⌝ }
 {
-    (4 - size % 4) % 4
+    let running = mmbi::may_write(mmbi::state(flags));
+    write_within(
+        mctp::LARGEST_BODY,
+        ring,
+        configured,
+        running,
+        pointers.read,
+        pointers.write,
+        packet,
+    )
 }
 
-// The header of Table 6 for a packet of `size` bytes, with MCTP's type.
-fn header_for(size: usize) -> u32
-    requires { ⌜ size ≤ 250 ⌝ }
-    ensures { λ r. ⌜ r ≡ headerFor size ⌝ }
+// Writing with a largest body of the caller's.
+pub fn write_within(
+    most: usize,
+    ring: &mut [u8],
+    configured: usize,
+    running: bool,
+    read: usize,
+    write: usize,
+    packet: &[u8],
+) -> Written
+    ensures answer { λ r. ⌜ enteredIn r ≡ enteredOf most (length (now (ring .entry))) configured running read write
+        (length (now (packet .entry))) ⌝ }
+    ensures ring { λ _. ⌜ now (ring .exit) ≡ writtenOf most (now (ring .entry)) configured running read write
+        (now (packet .entry)) ⌝ }
 {
-    let padding = padding_for(size);
-    let whole = 4 + size + padding;
-    ((whole / 4 - 1) * 1024 + padding * 256 + 4) as u32
+    let entered = judge(
+        most,
+        ring.len(),
+        configured,
+        running,
+        read,
+        write,
+        packet.len(),
+    );
+    let Written::Stored(_) = entered else {
+        return entered;
+    };
+    fill(ring, write, packet);
+    entered
 }
 
 // What writing answers, from the packet's size alone; nothing is stored yet.
@@ -42,7 +80,7 @@ fn judge(
     write: usize,
     size: usize,
 ) -> Written
-    ensures { λ r. ⌜ saidOf r ≡ putOf most lent configured running read write size ⌝ }
+    ensures { λ r. ⌜ enteredIn r ≡ enteredOf most lent configured running read write size ⌝ }
 {
     if !number::set_up_right(most, configured, lent) {
         return Written::Refused(Refusal::Setup);
@@ -64,14 +102,8 @@ fn judge(
     Written::Stored(number::next(configured, write, whole))
 }
 
-// A header stored at a pointer, where its four bytes don't run over the ring's end.
-fn lay_header(ring: &mut [u8], at: usize, header: u32)
-    ensures { λ _. ⌜ now (ring .exit) ≡ laid (now (ring .entry)) at (wordBytes highFirst header) ⌝ }
-{
-    octets::lay_high_first(ring, at, header);
-}
-
-// The packet with its header and its padding, stored from the write pointer on.
+// The packet with its header and its padding, stored from the write pointer on. Pointers are multiples of 4, as the
+// length is, so the header's four bytes don't run over the ring's end.
 fn fill(ring: &mut [u8], write: usize, packet: &[u8])
     requires { ⌜ (length (now ring) ≤ 65536) × (write + 4 ≤ length (now ring)) × (length (now packet) ≤ 250)
         × (wholeFor (length (now packet)) ≤ length (now ring)) ⌝ }
@@ -80,7 +112,7 @@ fn fill(ring: &mut [u8], write: usize, packet: &[u8])
     let size = packet.len();
     let padding = padding_for(size);
     let lent = ring.len();
-    lay_header(ring, write, header_for(size));
+    octets::lay_high_first(ring, write, header_for(size));
     round::copy_in(ring, number::next(lent, write, 4), packet);
     let zeros = [0u8; 3];
     round::copy_in(
@@ -90,57 +122,19 @@ fn fill(ring: &mut [u8], write: usize, packet: &[u8])
     );
 }
 
-// Writing with a largest body of the caller's.
-pub fn write_within(
-    most: usize,
-    ring: &mut [u8],
-    configured: usize,
-    running: bool,
-    read: usize,
-    write: usize,
-    packet: &[u8],
-) -> Written
-    ensures { λ r. ⌜ left (saidOf r) (now (ring .exit))
-        ≡ writeOf most (now (ring .entry)) configured running read write (now (packet .entry)) ⌝ }
+// The header of Table 6 for a packet of `size` bytes, with MCTP's type.
+fn header_for(size: usize) -> u32
+    requires { ⌜ size ≤ 250 ⌝ }
+    ensures { λ r. ⌜ r ≡ headerFor size ⌝ }
 {
-    let put = judge(
-        most,
-        ring.len(),
-        configured,
-        running,
-        read,
-        write,
-        packet.len(),
-    );
-    match put {
-        Written::Stored(next) => {
-            fill(ring, write, packet);
-            Written::Stored(next)
-        }
-        Written::Refused(refusal) => Written::Refused(refusal),
-    }
+    let padding = padding_for(size);
+    let whole = 4 + size + padding;
+    ((whole / 4 - 1) * 1024 + padding * 256 + 4) as u32
 }
 
-// A packet put into the ring at the write pointer; 11 unless the interface is in normal runtime.
-pub fn write(
-    ring: &mut [u8],
-    configured: usize,
-    flags: Flags,
-    pointers: Pointers,
-    packet: &[u8],
-) -> Written
-    ensures { λ r. ⌜ left (saidOf r) (now (ring .exit))
-        ≡ writeOf 64 (now (ring .entry)) configured (mayWrite (stateOf flags)) (pointers .read) (pointers .write)
-        (now (packet .entry)) ⌝ }
+// "padding to a multiple of 4", for a packet of `size` bytes.
+fn padding_for(size: usize) -> usize
+    ensures { λ r. ⌜ r ≡ paddingFor size ⌝ }
 {
-    let running = mmbi::may_write(mmbi::state(flags));
-    write_within(
-        mctp::LARGEST_BODY,
-        ring,
-        configured,
-        running,
-        pointers.read,
-        pointers.write,
-        packet,
-    )
+    (4 - size % 4) % 4
 }

@@ -3,7 +3,7 @@
 -- Assumes nothing.
 use native.Mathlib.Nat.{sub-zero}
 use native.Mathlib.Omega.{arith}
-use Rattle.rack.proofs.Carriers.{ring-output, ring-brings, ring-none, ring-fits, ring-front}
+use Rattle.rack.proofs.Carriers.{ring-brings, ring-none, ring-fits, ring-front}
 use borrow.Author.Needs.{needs}
 use Rattle.rack.proofs.path.from_ring.Statement.{statement}
 use Rattle.rack.proofs.path.from_ring.Tie as tie
@@ -13,16 +13,15 @@ returns c =
     let read = c .before .before .before .before .before .read in
     let a = c .before .before .before .before .before .before .before .before .before .before .args in
     let tag = c .before .before .match .keys2 in
-    let none = ring-none _ _ _ (a .flags) _ _ (a .out .now) _ (read .result) (read .ensures) tag in
-    let output = ring-output _ _ _ (a .flags) _ _ (a .out .now) _ (read .result) (read .ensures) in
-    (rw (c .no-packet .ensures, c .before .ring .ensures, none), output)
+    let none = ring-none _ _ _ (a .flags) _ _ (a .out .now) (read .result) (read .ensures .0) tag in
+    (rw (c .no-packet .ensures, c .before .ring .ensures, none), read .ensures .1)
 
 part-give-end : tie.Need-part-give-end
 part-give-end c =
     let read = c .before .before .before .before .before .before .before .read in
     let a = c .before .before .before .before .before .before .before .before .before .before .before .before .args in
     let told = c .before .before .before .taken .given in
-    let fits = ring-fits _ _ _ (a .flags) _ _ (a .out .now) _ (read .result) (read .ensures) _ _ (told .1) in
+    let fits = ring-fits _ _ _ (a .flags) _ _ (a .out .now) (read .result) (read .ensures .0) _ _ (told .1) in
     omega (arith, read .kept .1 .1 .1 .1 .0)
 
 returns-2 : tie.Need-returns-2
@@ -31,10 +30,11 @@ returns-2 c =
     let place = c .before .before .before .before .before .before .before .before .before in
     let read = place .before .before .read in
     let a = place .before .before .before .before .before .before .before .args in
-    let brings = ring-brings _ _ _ (a .flags) _ _ (a .out .now) _ (read .result) (read .ensures) _ (told .1) in
-    let front = ring-front _ _ _ (a .flags) _ _ (a .out .now) _ (read .result) (read .ensures) _ _ (told .1) in
-    let output = ring-output _ _ _ (a .flags) _ _ (a .out .now) _ (read .result) (read .ensures) in
-    (rw (brings, c .before .before .give .ensures, ← front, sub-zero (told .0 .0)), output)
+    let brings = ring-brings _ _ _ (a .flags) _ _ (a .out .now) (read .result) (read .ensures .0) _ (told .1) in
+    let front = ring-front _ _ _ (a .flags) _ _ (a .out .now) (read .result) (read .ensures .0) _ _ (told .1) in (
+      rw (brings, c .before .before .give .ensures, ← front, ← read .ensures .1, sub-zero (told .0 .0)),
+      read .ensures .1,
+    )
 
 pub from-ring-spec : {M : Type 1} → statement M
 from-ring-spec =

@@ -7,8 +7,10 @@ use Rattle.ring.proofs.reading.read.Tie as tie
 returns : tie.Need-returns
 returns c =
     let all = c .before .before in
-    let state = all .before .before in
-    cc (all .read-within .ensures, state .may-read .ensures, state .before .state .ensures)
+    let state = all .before .before in (
+      cc (all .read-within .ensures .0, state .may-read .ensures, state .before .state .ensures),
+      cc (all .read-within .ensures .1, state .may-read .ensures, state .before .state .ensures),
+    )
 
 pub read-spec : {M : Type 1} → statement M
 read-spec =

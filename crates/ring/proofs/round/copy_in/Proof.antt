@@ -1,29 +1,15 @@
 -- `ring::round::copy_in` meets its contract: bytes laid in one run or in two are stored round the ring's end.
 -- Assumes nothing.
-use mathlib.Core.Path.{_≡_, ap, _∙_}
+use mathlib.Core.Path.{ap, _∙_}
 use mathlib.Core.List.{List}
-use Prim.Native.Nat.{ℕ, _-_, _≤_, _<_}
-use native.Mathlib.Nat.{sub-zero}
+use Prim.Native.Nat.{ℕ, _-_}
 use native.Mathlib.Omega.{arith}
-use lib.ListN.{length, take, drop, length-drop}
-use lib.Seq.{take-all}
+use lib.ListN.{length, take, drop}
 use Rattle.octets.specs.Bytes.{laid}
-use Rattle.ring.specs.Round.{stored}
 use Rattle.ring.proofs.Rounds.{stored-straight, stored-round}
 use borrow.Author.Needs.{needs}
 use Rattle.ring.proofs.round.copy_in.Statement.{statement}
 use Rattle.ring.proofs.round.copy_in.Tie as tie
-
-two-runs : (ring : List ℕ) (at : ℕ) (bytes : List ℕ) → at < length ring → length bytes ≤ length ring
-    → length ring - at < length bytes
-    → laid (laid ring at (take (length ring - at - 0) (drop 0 bytes))) 0
-    (take (length bytes - (length ring - at)) (drop (length ring - at) bytes)) ≡ stored ring at bytes
-two-runs ring at bytes h k over =
-    let rest : take (length bytes - (length ring - at)) (drop (length ring - at) bytes)
-    ≡ drop (length ring - at) bytes =
-    take-all (length bytes - (length ring - at)) (drop (length ring - at) bytes)
-    (omega (arith, length-drop (length ring - at) bytes)) in
-    rw (rest, sub-zero (length ring - at)) (stored-round ring at bytes h k over)
 
 returns : tie.Need-returns
 returns c =
@@ -32,13 +18,13 @@ returns c =
 
 returns-2 : tie.Need-returns-2
 returns-2 c =
-    let a =
-    c .before .before .before .before .before .before .before .before .before .before .before .before .before .args in
+    let first = c .before .before .before .before .before .before .before in
+    let a = first .before .before .before .before .before .before .args in
     let straight = length (a .ring .now) - a .at in
     c .before .before .lay3 .ensures
     ∙ ap (λ (s : List ℕ). laid s 0 (take (length (a .bytes .now) - straight) (drop straight (a .bytes .now))))
-    (c .before .before .before .before .before .before .before .lay2 .ensures)
-    ∙ two-runs (a .ring .now) (a .at) (a .bytes .now) (omega arith) (omega arith) (omega arith)
+    (first .lay2 .ensures)
+    ∙ stored-round (a .ring .now) (a .at) (a .bytes .now) (omega arith) (omega arith) (omega arith)
 
 pub copy-in-spec : {M : Type 1} → statement M
 copy-in-spec =

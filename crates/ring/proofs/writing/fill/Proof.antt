@@ -9,7 +9,7 @@ use lib.ListN.{length, take, replicate, length-append, length-take, length-repli
 use Rattle.octets.specs.Bytes.{laid}
 use Rattle.octets.specs.Words.{highFirst, wordBytes}
 use Rattle.ring.specs.Numbers.{nextOf}
-use Rattle.ring.specs.Packet.{paddingFor, wholeFor, headerFor, ringBytes}
+use Rattle.ring.specs.Layout.{paddingFor, wholeFor, headerFor, ringBytes}
 use Rattle.ring.specs.Round.{stored}
 use Rattle.ring.proofs.Numbers.{next-below}
 use Rattle.ring.proofs.Headers.{word-length}
@@ -62,43 +62,48 @@ module _ (ring packet : List ℕ) (p : ℕ) (straight : p + 4 ≤ length ring)
       ∙ zeros-front (paddingFor (length packet)) (omega arith) in
       rw (f2, f1, f0, pad, eh, e1, e2) all
 
+-- the start, and where padding, header and packet came in, each from the place behind it
+abbrev start : tie.After-padding-for → tie.Start
+start c = c .before .before .before
+
+abbrev padded : tie.After-lay-high-first → tie.After-padding-for
+padded c = c .before .before .before
+
+abbrev headed : tie.After-next → tie.After-lay-high-first
+headed c = c .before .before .before .before
+
+abbrev copied : tie.After-next2 → tie.After-copy-in
+copied c = c .before .before .before .before
+
 copy-in-requires : tie.Need-copy-in-requires
 copy-in-requires c κs =
-    let a = c .before .before .before .before .before .before .before .before .before .before .args in
-    let kept = c .before .before .before .before .lay-header .kept .0 in (
+    let a = start (padded (headed c)) .args in
+    let kept = headed c .lay-high-first .kept .0 in (
       omega (arith, c .next .ensures, kept, next-below (length (a .ring .now)) (a .write) 4 (omega arith)),
       omega (arith, kept),
     )
 
 copy-in-requires-2 : tie.Need-copy-in-requires-2
 copy-in-requires-2 c κs =
-    let a =
-    c .before .before .before .before .before .before .before .before .before .before .before .before .before .before .before .before .before .args in
-    let kept =
-    c .before .before .before .before .before .before .before .before .before .before .before .lay-header .kept .0 in
-    let again = c .before .before .before .before .before .before .copy-in .kept .0 in (
-      omega (
-        arith,
-        c .before .before .next2 .ensures,
-        kept,
-        again,
-        next-below (length (a .ring .now)) (a .write) (4 + length (a .packet .now)) (omega arith),
-      ),
-      omega (
-        arith,
-        kept,
-        again,
-        length-take
-            (c .before .before .before .before .before .before .before .before .before .before .before .before .before .before .padding-for .result - 0) zeros,
-      ),
+    let n = c .before .before in
+    let h = headed (copied n .before) in
+    let a = start (padded h) .args in
+    let kept = h .lay-high-first .kept .0 in
+    let again = copied n .copy-in .kept .0 in
+    let after = next-below (length (a .ring .now)) (a .write) (4 + length (a .packet .now)) (omega arith) in (
+      omega (arith, n .next2 .ensures, kept, again, after),
+      omega (arith, kept, again, length-take (padded h .padding-for .result - 0) zeros),
     )
 
 returns : tie.Need-returns
 returns c =
-    let a =
-    c .before .before .before .before .before .before .before .before .before .before .before .before .before .before .before .before .before .before .before .before .args in
+    let n = c .before .before .before .before .before in
+    let first = copied n .before in
+    let h = headed first in
+    let a = start (padded h) .args in
     steps (a .ring .now) (a .packet .now) (a .write) (omega arith) (omega arith) _ _ _ _ _ _ _
-    (c .before .before .before .before .before .before .before .before .before .before .before .before .before .before .before .header-for .ensures) (c .before .before .before .before .before .before .before .before .before .before .before .before .before .before .before .before .before .padding-for .ensures) (c .before .before .before .before .before .before .before .before .before .before .next .ensures) (c .before .before .before .before .before .next2 .ensures) (c .before .before .before .before .before .before .before .before .before .before .before .before .before .before .lay-header .ensures) (c .before .before .before .before .before .before .before .before .before .copy-in .ensures) (c .before .before .copy-in2 .ensures)
+    (h .before .header-for .ensures) (padded h .padding-for .ensures) (first .next .ensures) (n .next2 .ensures)
+    (h .lay-high-first .ensures) (copied n .copy-in .ensures) (c .before .before .copy-in2 .ensures)
 
 pub fill-spec : {M : Type 1} → statement M
 fill-spec =

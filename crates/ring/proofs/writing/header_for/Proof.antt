@@ -1,6 +1,6 @@
 -- `ring::writing::header_for` meets its contract.
 -- Assumes nothing.
-use Rattle.ring.specs.Packet.{headerFor}
+use Rattle.ring.specs.Layout.{headerFor}
 use borrow.Author.Needs.{needs}
 use Rattle.ring.proofs.writing.header_for.Statement.{statement}
 use Rattle.ring.proofs.writing.header_for.Tie as tie

@@ -7,8 +7,10 @@ use Rattle.ring.proofs.writing.write.Tie as tie
 returns : tie.Need-returns
 returns c =
     let all = c .before .before in
-    let state = all .before .before in
-    cc (all .write-within .ensures, state .may-write .ensures, state .before .state .ensures)
+    let state = all .before .before in (
+      cc (all .write-within .ensures .0, state .may-write .ensures, state .before .state .ensures),
+      cc (all .write-within .ensures .1, state .may-write .ensures, state .before .state .ensures),
+    )
 
 pub write-spec : {M : Type 1} → statement M
 write-spec =

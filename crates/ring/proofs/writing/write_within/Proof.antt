@@ -1,68 +1,55 @@
 -- `ring::writing::write_within` meets its contract: a good packet is stored, and a refusal leaves the ring.
 -- Assumes nothing.
-use mathlib.Core.Path.{_≡_, refl, ap, sym, _∙_}
-use mathlib.Core.Bool.{Bool}
-use mathlib.Core.List.{List}
-use Prim.Native.Nat.{ℕ}
+use mathlib.Core.Path.{_≡_, ap, sym, _∙_}
 use native.Mathlib.Omega.{arith}
 use lib.ListN.{length}
-use Rattle.ring.specs.Writing.{Said, written, saidOf, putOf, ringOf, left, writeOf}
+use Rattle.ring.specs.Answers.{enteredIn}
+use Rattle.ring.specs.Writing.{Entered, entered, enteredOf, ringAfter}
 use Rattle.ring.proofs.Writings.{Good, good, good-fits}
 use borrow.Author.Needs.{needs}
 use Rattle.ring.proofs.writing.write_within.Statement.{statement}
 use Rattle.ring.proofs.writing.write_within.Tie as tie
 
-module _ (most : ℕ) (ring : List ℕ) (configured : ℕ) (running : Bool) (read write : ℕ) (packet : List ℕ) where
-  -- answer and ring, from what was answered
-  answer : (said : Said) (new : List ℕ) → putOf most (length ring) configured running read write (length packet) ≡ said
-      → new ≡ ringOf said ring write packet
-      → left said new ≡ writeOf most ring configured running read write packet
-  answer said new e f =
-      let g : new ≡ ringOf (putOf most (length ring) configured running read write (length packet)) ring write packet =
-      f ∙ ap (λ (t : Said). ringOf t ring write packet) (sym e) in
-      λ i. left (sym e i) (g i)
+-- the start, from where the answer was looked at
+abbrev start : tie.After-judge → tie.Start
+start c = c .before .before .before
 
 -- the packet may be written
-found : (c : tie.After-put) → putOf (c .before .before .before .before .before .args .most)
-    (length (c .before .before .before .before .before .args .ring .now))
-    (c .before .before .before .before .before .args .configured)
-    (c .before .before .before .before .before .args .running) (c .before .before .before .before .before .args .read)
-    (c .before .before .before .before .before .args .write)
-    (length (c .before .before .before .before .before .args .packet .now)) ≡ written (c .put .given .0 .0)
-found c = sym (c .before .before .judge .ensures) ∙ ap saidOf (c .put .given .1)
+found : (c : tie.After-enum-told) → let a = start (c .before .before) .args in
+    enteredOf (a .most) (length (a .ring .now)) (a .configured) (a .running) (a .read) (a .write)
+    (length (a .packet .now)) ≡ entered (c .enum-told .given .0 .0)
+found c = sym (c .before .before .judge .ensures) ∙ ap enteredIn (c .enum-told .given .1)
 
-known : (c : tie.After-put) → Good (c .before .before .before .before .before .args .most)
-    (length (c .before .before .before .before .before .args .ring .now))
-    (c .before .before .before .before .before .args .configured)
-    (c .before .before .before .before .before .args .running) (c .before .before .before .before .before .args .read)
-    (c .before .before .before .before .before .args .write)
-    (length (c .before .before .before .before .before .args .packet .now)) (c .put .given .0 .0)
-known c =
-    let a = c .before .before .before .before .before .args in
-    good (a .most) (length (a .ring .now)) (a .configured) (a .running) (a .read) (a .write) (length (a .packet .now))
-    (c .put .given .0 .0) (found c)
-
-fill-requires : tie.Need-fill-requires
-fill-requires c κs =
-    let a = c .before .before .before .before .before .before .before .args in
-    let g = known (c .before .before) in
-    let fits = good-fits (a .most) (length (a .ring .now)) (a .configured) (a .running) (a .read) (a .write)
-    (length (a .packet .now)) (c .before .before .put .given .0 .0) g in (
-      omega (arith, g .set-up .same, g .set-up .size .high),
-      omega (arith, g .set-up .same, g .set-up .size .fours, g .to .fours, g .to .below),
-      omega (arith, g .largest, g .set-up .high),
-      omega (arith, g .set-up .same, fits),
-    )
+known : (c : tie.After-enum-told) → let a = start (c .before .before) .args in
+    Good (a .most) (length (a .ring .now)) (a .configured) (a .running) (a .read) (a .write)
+    (length (a .packet .now)) (c .enum-told .given .0 .0)
+known c = good _ _ _ _ _ _ _ _ (found c)
 
 returns : tie.Need-returns
 returns c =
-    answer _ _ _ _ _ _ _ _ _ (found (c .before .before .before .before .before)) (c .before .before .fill .ensures)
+    let a = start (c .before .before) .args in
+    let is = sym (ap enteredIn (c .enum-told2 .given .1)) ∙ c .before .before .judge .ensures in (
+      c .before .before .judge .ensures,
+      ap (λ (e : Entered). ringAfter e (a .ring .now) (a .write) (a .packet .now)) is,
+    )
+
+fill-requires : tie.Need-fill-requires
+fill-requires c κs =
+    let g = known (c .before) in (
+      omega (arith, g .set-up .same, g .set-up .size .high),
+      omega (arith, g .set-up .same, g .set-up .size .fours, g .to .fours, g .to .below),
+      omega (arith, g .largest, g .set-up .high),
+      omega (arith, g .set-up .same, good-fits _ _ _ _ _ _ _ _ g),
+    )
 
 returns-2 : tie.Need-returns-2
 returns-2 c =
-    let a = c .before .before .before .before .before .before .args in
-    answer (a .most) (a .ring .now) (a .configured) (a .running) (a .read) (a .write) (a .packet .now) _ _
-    (sym (c .before .before .before .judge .ensures) ∙ ap saidOf (c .before .put2 .given .1)) refl
+    let t = c .before .before .before .before in
+    let a = start (t .before .before) .args in (
+      t .before .before .judge .ensures,
+      c .before .before .fill .ensures
+          ∙ ap (λ (e : Entered). ringAfter e (a .ring .now) (a .write) (a .packet .now)) (sym (found t)),
+    )
 
 pub write-within-spec : {M : Type 1} → statement M
 write-within-spec =
@@ -70,8 +57,8 @@ write-within-spec =
     (tie.spec
     (λ c κs. search needs)
     (λ c. search needs)
-    fill-requires
-    (λ c. search needs)
     (λ c. search needs)
     returns
+    fill-requires
+    (λ c. search needs)
     returns-2)

@@ -11,13 +11,13 @@ use Rattle.octets.specs.Bytes.{Below}
 use Rattle.octets.specs.Words.{highFirst, wordBytes}
 use Rattle.octets.proofs.Below.{below-append, below-take, below-drop}
 use Rattle.octets.proofs.Words.{bytes-back}
-use Rattle.ring.specs.Numbers.{filledOf, nextOf}
-use Rattle.ring.specs.Packet.{headerAt, lengthField, paddingField, typeField, wholeOf, sizeOf, packetOf}
-use Rattle.ring.specs.Packet.{paddingFor, wholeFor, headerFor, ringWith, RingLayout}
-use Rattle.ring.specs.Reading.{packet, takenOf}
+use Rattle.ring.specs.Numbers.{nextOf}
+use Rattle.ring.specs.Layout.{headerAt, lengthField, paddingField, typeField, wholeOf, sizeOf, packetOf}
+use Rattle.ring.specs.Layout.{paddingFor, wholeFor, headerFor, ringWith, RingLayout}
+use Rattle.ring.specs.Reading.{packet, foundOf}
 use Rattle.ring.specs.Round.{roundFrom}
 use Rattle.ring.proofs.Numbers.{filled-below}
-use Rattle.ring.proofs.Readings.{Passed, Good, good}
+use Rattle.ring.proofs.Readings.{Good, good}
 use Rattle.ring.proofs.Rounds.{round-length}
 
 pub round-bytes : (n : ℕ) (s : List ℕ) → Below 256 s → Below 256 (roundFrom n s)
@@ -58,23 +58,19 @@ held : (s : List ℕ) (n k : ℕ) → 4 + n + k < length s → length (take k (d
 held s n k h = simp (length-take, length-drop) (omega arith)
 
 module _ (most : ℕ) (ring : List ℕ) (configured : ℕ) (readable : Bool) (read write output size next : ℕ)
-    (b : Below 256 ring) (e : takenOf most ring configured readable read write output ≡ packet size next) where
+    (b : Below 256 ring) (e : foundOf most ring configured readable read write output ≡ packet size next) where
   abbrev s : List ℕ
   s = roundFrom read ring
 
   g : Good most ring configured readable read write output size next
   g = good most ring configured readable read write output size next e
 
-  header : Passed most (filledOf configured read write) (headerAt s)
-      (nextOf configured read (wholeOf (headerAt s))) size next
-  header = g .header
-
   -- all of it lies in the ring
   lies : wholeOf (headerAt s) < length s
   lies =
       omega (
         arith,
-        header .held,
+        g .held,
         round-length read ring,
         g .set-up .same,
         filled-below configured read write
@@ -83,7 +79,7 @@ module _ (most : ℕ) (ring : List ℕ) (configured : ℕ) (readable : Bool) (re
 
   taken-length : length (packetOf s) ≡ sizeOf (headerAt s)
   unfolding packetOf
-  taken-length = simp (length-take, length-drop) (omega (arith, lies, header .counted))
+  taken-length = simp (length-take, length-drop) (omega (arith, lies, g .counted))
 
   taken-whole : take (wholeFor (length (packetOf s))) s
       ≡ ringWith (headerAt s / 16 % 16) (packetOf s)
@@ -93,9 +89,9 @@ module _ (most : ℕ) (ring : List ℕ) (configured : ℕ) (readable : Bool) (re
       let reserved = headerAt s / 16 % 16 in
       let n = length (packetOf s) in
       let head : take 4 s ≡ wordBytes highFirst (headerFor n + 16 * reserved) =
-      bytes-back highFirst s 0 (round-bytes read ring b) (omega (arith, lies, header .counted))
+      bytes-back highFirst s 0 (round-bytes read ring b) (omega (arith, lies, g .counted))
       ∙ ap (wordBytes highFirst)
-      (header-is (headerAt s) (header .ours) (header .counted)
+      (header-is (headerAt s) (g .ours) (g .counted)
       ∙ ap (λ (k : ℕ). headerFor k + 16 * reserved) (sym taken-length)) in
       let body : take n (drop 4 s) ≡ packetOf s = ap (λ (k : ℕ). take k (drop 4 s)) taken-length in
       parts s n (paddingFor n) ∙ (λ i. head i ++ (body i ++ take (paddingFor n) (drop (4 + n) s)))
@@ -106,11 +102,11 @@ module _ (most : ℕ) (ring : List ℕ) (configured : ℕ) (readable : Bool) (re
   taken-padding =
       let n = length (packetOf s) in
       let whole : wholeFor n ≡ wholeOf (headerAt s) =
-      ap wholeFor taken-length ∙ sym (whole-is (headerAt s) (header .ours) (header .counted)) in
+      ap wholeFor taken-length ∙ sym (whole-is (headerAt s) (g .ours) (g .counted)) in
       held s n (paddingFor n) (subst (λ (k : ℕ). k < length s) (sym whole) lies)
 
   whole : wholeOf (headerAt s) ≡ wholeFor size
-  whole = whole-is (headerAt s) (header .ours) (header .counted) ∙ ap wholeFor (sym (header .sized))
+  whole = whole-is (headerAt s) (g .ours) (g .counted) ∙ ap wholeFor (sym (g .sized))
 
   pub ring-layout : RingLayout s (packetOf s) × (length (packetOf s) ≡ size)
       × (next ≡ nextOf configured read (wholeFor size))
@@ -122,6 +118,6 @@ module _ (most : ℕ) (ring : List ℕ) (configured : ℕ) (readable : Bool) (re
       padded = taken-padding;
       laid-out = taken-whole;
     },
-    taken-length ∙ sym (header .sized),
-    header .on ∙ ap (nextOf configured read) whole,
+    taken-length ∙ sym (g .sized),
+    g .on ∙ ap (nextOf configured read) whole,
   )
