@@ -21,7 +21,7 @@ use Rattle.slots.specs.Slots.{slotAt, isFree}
 use Rattle.receiver.specs.Step as rules
 use Rattle.rack.specs.declared.answer.Beside.{Beside}
 use Rattle.rack.specs.Arrivals.{Arrival, bySmbus, byPcc, byRing, Brought, Without, packet, brings}
-use Rattle.rack.specs.Answers.{given, nothing, Left, arrivedOf}
+use Rattle.rack.specs.Answers.{given, nothing, AfterArrival, arrivedOf}
 use Rattle.transcript.specs.declared.state.State.{State}
 use Rattle.transcript.specs.State.{start, oneMore, withPacket}
 use Rattle.transcript.specs.Frame.{frameOf}
@@ -43,7 +43,7 @@ one-counted = ap (λ (c : Brought). withPacket (arrivedOf 64 card empty c .told)
 
 -- "One that refuses everything is shut out by 3's arrival on each path with 2's reading.": a good arrival is never
 -- answered with a refusal
-module _ (build : Receiver → List ℕ → Arrival → Left)
+module _ (build : Receiver → List ℕ → Arrival → AfterArrival)
     (meets : (r : Receiver) (m : List ℕ) (a : Arrival) → build r m a ≡ arrival 64 r m a) where
   not-both : (beside : Beside) (said : rules.Said) (why : Without) → given beside said ≡ nothing why → ⊥
   not-both beside said why e = let z : _≡_ {A = ℕ} 0 1 = cc in omega arith
@@ -53,7 +53,7 @@ module _ (build : Receiver → List ℕ → Arrival → Left)
   refuser a p beside e refuses =
       let no = refuses card empty in
       not-both beside (rules.stepOf 64 card empty p .said) (no .0)
-      (sym (ap (λ (l : Left). l .told) (meets card empty a) ∙ ap (λ (c : Brought). arrivedOf 64 card empty c .told) e)
+      (sym (ap (λ (l : AfterArrival). l .told) (meets card empty a) ∙ ap (λ (c : Brought). arrivedOf 64 card empty c .told) e)
       ∙ no .1)
 
   abbrev Refuses : Arrival → Type 0

@@ -6,10 +6,10 @@ use mathlib.Core.List.{List, [], _∷_, _++_}
 use Rattle.slots.specs.declared.state.Receiver.{Receiver}
 use Rattle.messages.specs.Run.{Reply, rules, messagesOf, Ran, joined}
 use Rattle.rack.specs.Arrivals.{Arrival, Brought, packet, none, brings}
-use Rattle.rack.specs.Answers.{Told, given, nothing, Left, arrivedOf}
+use Rattle.rack.specs.Answers.{Told, given, nothing, AfterArrival, arrivedOf}
 
 -- one arrival, as the calls of the three paths promise it
-abbrev pub arrival : ℕ → Receiver → List ℕ → Arrival → Left
+abbrev pub arrival : ℕ → Receiver → List ℕ → Arrival → AfterArrival
 arrival most r m a = arrivedOf most r m (brings most a)
 
 -- "What the message rules answer to the good arrivals": to any other they answer nothing
@@ -22,7 +22,7 @@ abbrev pub messagesIn : Told → List ℕ → List (List ℕ)
 messagesIn (given beside said) m = messagesOf said m
 messagesIn (nothing why) m = []
 
-abbrev pub ofArrival : Left → Ran
+abbrev pub ofArrival : AfterArrival → Ran
 ofArrival l =
     record {
       answers = answersIn (l .told);

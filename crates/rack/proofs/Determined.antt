@@ -15,7 +15,7 @@ use Rattle.rack.specs.declared.answer.Arrived.{Arrived}
 use Rattle.rack.specs.declared.answer.Arrived.the-variants.{Given, Nothing}
 use Rattle.rack.specs.declared.answer.Received.{Received}
 use Rattle.rack.specs.Arrivals.{bySmbus, byPcc, byRing, without, brings}
-use Rattle.rack.specs.Answers.{tells, Left, left, arrivedOf}
+use Rattle.rack.specs.Answers.{tells, AfterArrival, afterArrival, arrivedOf}
 use Rattle.rack.proofs.path.from_smbus.Reads as smbus
 use Rattle.rack.proofs.path.from_pcc.Reads as pcc
 use Rattle.rack.proofs.path.from_ring.Reads as ring
@@ -39,24 +39,24 @@ tells-injective (Nothing v) (Given j y) e = cc
 tells-injective (Nothing v) (Nothing w) e = ap Nothing (without-injective v w (cc))
 
 -- the answer, the receiver and every byte of the memory
-left-injective : (o q : Received) (m n : List ℕ) → left o m ≡ left q n → (o ≡ q) × (m ≡ n)
-left-injective o q m n e =
-    let told = tells-injective (o .arrived) (q .arrived) (ap (λ (l : Left). l .told) e) in
-    ((λ i. record { arrived = told i; receiver = e i .receiver }), ap (λ (l : Left). l .memory) e)
+after-injective : (o q : Received) (m n : List ℕ) → afterArrival o m ≡ afterArrival q n → (o ≡ q) × (m ≡ n)
+after-injective o q m n e =
+    let told = tells-injective (o .arrived) (q .arrived) (ap (λ (l : AfterArrival). l .told) e) in
+    ((λ i. record { arrived = told i; receiver = e i .receiver }), ap (λ (l : AfterArrival). l .memory) e)
 
 -- Each contract says what the demands say of an arrival on its path ..
 pub from-smbus-arrives : (κs : Lfts 2) (a r e : _) → smbus.Post κs a r e
-    → left r (e .1 .1 .1 .0 .now)
+    → afterArrival r (e .1 .1 .1 .0 .now)
     ≡ arrivedOf 64 (a .1 .1 .0) (a .1 .1 .1 .0 .now) (brings 64 (bySmbus (a .0 .now) (a .1 .0)))
 from-smbus-arrives κs a r e p = p
 
 pub from-pcc-arrives : (κs : Lfts 2) (a r e : _) → pcc.Post κs a r e
-    → left r (e .1 .1 .1 .0 .now)
+    → afterArrival r (e .1 .1 .1 .0 .now)
     ≡ arrivedOf 64 (a .1 .1 .0) (a .1 .1 .1 .0 .now) (brings 64 (byPcc (a .0 .now) (a .1 .0)))
 from-pcc-arrives κs a r e p = p
 
 pub from-ring-arrives : (κs : Lfts 3) (a r e : _) → ring.Post κs a r e
-    → (left r (e .1 .1 .1 .1 .1 .1 .0 .now)
+    → (afterArrival r (e .1 .1 .1 .1 .1 .1 .0 .now)
     ≡ arrivedOf 64 (a .1 .1 .1 .1 .1 .0) (a .1 .1 .1 .1 .1 .1 .0 .now)
     (brings 64
     (byRing (a .0 .now) (a .1 .0) (a .1 .1 .0) (a .1 .1 .1 .0 .read) (a .1 .1 .1 .0 .write) (a .1 .1 .1 .1 .0 .now))))
@@ -68,17 +68,17 @@ from-ring-arrives κs a r e p = p
 -- .. and leaves no choice.
 pub from-smbus-determined : (κs : Lfts 2) (a r q e f : _) → smbus.Post κs a r e → smbus.Post κs a q f
     → (r ≡ q) × (e .1 .1 .1 .0 .now ≡ f .1 .1 .1 .0 .now)
-from-smbus-determined κs a r q e f p o = left-injective r q _ _ (determined p o)
+from-smbus-determined κs a r q e f p o = after-injective r q _ _ (determined p o)
 
 pub from-pcc-determined : (κs : Lfts 2) (a r q e f : _) → pcc.Post κs a r e → pcc.Post κs a q f
     → (r ≡ q) × (e .1 .1 .1 .0 .now ≡ f .1 .1 .1 .0 .now)
-from-pcc-determined κs a r q e f p o = left-injective r q _ _ (determined p o)
+from-pcc-determined κs a r q e f p o = after-injective r q _ _ (determined p o)
 
 -- from a ring, of the output too
 pub from-ring-determined : (κs : Lfts 3) (a r q e f : _) → ring.Post κs a r e → ring.Post κs a q f
     → ((r ≡ q) × (e .1 .1 .1 .1 .1 .1 .0 .now ≡ f .1 .1 .1 .1 .1 .1 .0 .now))
     × (e .1 .1 .1 .1 .0 .now ≡ f .1 .1 .1 .1 .0 .now)
-from-ring-determined κs a r q e f p o = (left-injective r q _ _ (determined (p .0) (o .0)), determined (p .1) (o .1))
+from-ring-determined κs a r q e f p o = (after-injective r q _ _ (determined (p .0) (o .0)), determined (p .1) (o .1))
 
 -- No call asks anything of its arguments first.
 pub no-requires : ((κs : Lfts 2) (a : _) → smbus.Pre κs a)

@@ -21,19 +21,19 @@ tells (Given beside answer) = given beside (rules.says answer)
 tells (Nothing why) = nothing (without why)
 
 -- all that a call leaves
-pub record Left : Type 0 where
+pub record AfterArrival : Type 0 where
   pub told : Told
   pub receiver : Receiver
   pub memory : List ℕ
 
-abbrev pub left : Received → List ℕ → Left
-left o m = record { told = tells (o .arrived); receiver = o .receiver; memory = m }
+abbrev pub afterArrival : Received → List ℕ → AfterArrival
+afterArrival o m = record { told = tells (o .arrived); receiver = o .receiver; memory = m }
 
 -- what the message rules leave of a packet, with what the carrier also knows
-abbrev pub ruled : Beside → rules.Left → Left
+abbrev pub ruled : Beside → rules.Left → AfterArrival
 ruled k l = record { told = given k (l .said); receiver = l .receiver; memory = l .memory }
 
 -- "a good arrival's packet goes to the message rules"; "A carrier's refusal never reaches the slots."
-abbrev pub arrivedOf : ℕ → Receiver → List ℕ → Brought → Left
+abbrev pub arrivedOf : ℕ → Receiver → List ℕ → Brought → AfterArrival
 arrivedOf most r m (packet p beside) = ruled beside (rules.stepOf most r m p)
 arrivedOf most r m (none why) = record { told = nothing why; receiver = r; memory = m }

@@ -9,29 +9,18 @@ use native.Mathlib.Omega.{arith}
 use lib.Dec.{lit<}
 use lib.ListN.{length, getD, take, drop, replicate, length-append, length-drop, length-replicate, List·getD-append}
 use lib.Seq.{getD-drop, take-at, drop-at}
-use Rattle.octets.specs.Words.{Order, lowFirst, highFirst, wordAt, wordBytes}
-use Rattle.octets.proofs.Words.{word-back}
+use Rattle.octets.specs.Words.{highFirst, wordAt, wordBytes}
+use Rattle.octets.proofs.Words.{word-length, word-same, word-back}
 use Rattle.ring.specs.Layout.{headerAt, paddingField, typeField, mctpType, wholeOf, sizeOf, packetOf, paddingFor}
 use Rattle.ring.specs.Layout.{wholeFor, headerFor, ringBytes}
 use Rattle.ring.specs.Round.{roundFrom}
-
-pub word-length : (w : ℕ) → length (wordBytes highFirst w) ≡ 4
-unfolding wordBytes
-word-length w = refl
-
--- the same four bytes make the same word
-pub word-four : (o : Order) (s t : List ℕ) (i j : ℕ) → ((k : ℕ) → k < 4 → getD s (i + k) 0 ≡ getD t (j + k) 0)
-    → wordAt o s i ≡ wordAt o t j
-unfolding wordAt
-word-four lowFirst s t i j e = cc (simp add-zero at (e 0 (lit< tt)), e 1 (lit< tt), e 2 (lit< tt), e 3 (lit< tt))
-word-four highFirst s t i j e = cc (simp add-zero at (e 0 (lit< tt)), e 1 (lit< tt), e 2 (lit< tt), e 3 (lit< tt))
 
 -- a header's four bytes don't run over the ring's end
 pub header-straight : (ring : List ℕ) (p : ℕ) → p + 4 ≤ length ring
     → wordAt highFirst ring p ≡ headerAt (roundFrom p ring)
 unfolding roundFrom
 header-straight ring p h =
-    word-four highFirst ring (roundFrom p ring) p 0
+    word-same highFirst ring (roundFrom p ring) p 0
     (λ (k : ℕ) (below : k < 4).
     rw (zero-add k)
     (sym
@@ -88,7 +77,7 @@ module _ (packet rest : List ℕ) where
   unfolding packetOf
   packet-back h =
       let four : length (wordBytes highFirst (headerFor (length packet))) ≡ 4 =
-      word-length (headerFor (length packet)) in
+      word-length highFirst (headerFor (length packet)) in
       ap (λ (n : ℕ). take n (drop 4 (ringBytes packet ++ rest)))
       (ap sizeOf (header-back h) ∙ header-size (length packet))
       ∙ ap (λ (s : List ℕ). take (length packet) (drop 4 s)) bytes-split
@@ -104,7 +93,7 @@ bytes-length packet =
     length-append w (packet ++ pad)
     ∙ omega (
       arith,
-      word-length (headerFor (length packet)),
+      word-length highFirst (headerFor (length packet)),
       length-append packet pad,
       length-replicate {A = ℕ} (paddingFor (length packet)) 0,
     )

@@ -3,7 +3,7 @@
 use mathlib.Core.List.{List}
 use Prim.Native.Nat.{ℕ}
 use Rattle.rack.specs.Arrivals.{smbusBrings}
-use Rattle.rack.specs.Answers.{Left as Arrived, arrivedOf}
+use Rattle.rack.specs.Answers.{AfterArrival as Arrived, arrivedOf}
 use Rattle.records.specs.Line.{lineBytes}
 use Rattle.transcript.specs.declared.state.State.{State}
 use Rattle.transcript.specs.State.{ownAddress, oneMore, withPacket}

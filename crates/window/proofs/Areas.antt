@@ -5,8 +5,9 @@ use mathlib.Core.Bool.{Bool, true, false, false≢true}
 use mathlib.Core.List.{List, []}
 use Prim.Native.Nat.{ℕ, _+_, _≤_}
 use native.Mathlib.Omega.{arith}
-use lib.ListN.{length, take, drop, length-take, length-drop}
+use lib.ListN.{length}
 use Rattle.octets.specs.Choice.{pick}
+use Rattle.octets.proofs.Parts.{part-length}
 use Rattle.mmbi.specs.Pointers.{lengthRight}
 use Rattle.descriptor.specs.declared.configuration.Configuration.{Configuration}
 use Rattle.descriptor.specs.declared.configuration.Area.{Area}
@@ -36,16 +37,12 @@ place-fits window c area = fits (allowed window c) refl
     fits true e = area-fits window c area (allowed-facts window c e)
     fits false e = omega arith
 
--- so many bytes of a list, where there are so many
-take-drop-length : (s : List ℕ) (from n : ℕ) → from + n ≤ length s → length (take n (drop from s)) ≡ n
-take-drop-length s from n h = simp (length-take, length-drop) (omega arith)
-
 -- an area has the length of its place
 pub area-length : (s : List ℕ) (c : Configuration) (area : Area) → allowed (length s) c ≡ true
     → length (areaOf s c area) ≡ areaPlace c area .length
 unfolding areaOf placeIn
 area-length s c area e =
-    rw e (take-drop-length s (areaPlace c area .offset) (areaPlace c area .length)
+    rw e (part-length s (areaPlace c area .offset) (areaPlace c area .length)
     (area-fits (length s) c area (allowed-facts (length s) c e)))
 
 -- what is refused is empty

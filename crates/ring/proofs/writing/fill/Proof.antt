@@ -12,7 +12,7 @@ use Rattle.ring.specs.Numbers.{nextOf}
 use Rattle.ring.specs.Layout.{paddingFor, wholeFor, headerFor, ringBytes}
 use Rattle.ring.specs.Round.{stored}
 use Rattle.ring.proofs.Numbers.{next-below}
-use Rattle.ring.proofs.Headers.{word-length}
+use Rattle.octets.proofs.Words.{word-length}
 use Rattle.ring.proofs.Rounds.{stored-straight, stored-stored}
 use borrow.Author.Needs.{needs}
 use Rattle.ring.proofs.writing.fill.Statement.{statement}
@@ -36,7 +36,7 @@ module _ (ring packet : List ℕ) (p : ℕ) (straight : p + 4 ≤ length ring)
   unfolding ringBytes
   all =
       let w = wordBytes highFirst (headerFor (length packet)) in
-      let four : length w ≡ 4 = word-length (headerFor (length packet)) in
+      let four : length w ≡ 4 = word-length highFirst (headerFor (length packet)) in
       let pad = replicate {A = ℕ} (paddingFor (length packet)) 0 in
       let more : length pad ≡ paddingFor (length packet) = length-replicate {A = ℕ} (paddingFor (length packet)) 0 in
       let front : length (w ++ packet) ≡ 4 + length packet = length-append w packet
