@@ -19,7 +19,7 @@ use Rattle.rack.specs.declared.answer.Beside.the-variants.{Source}
 use Rattle.rack.specs.Arrivals.{Brought, bySmbus, packet, brings}
 use Rattle.rack.specs.Answers.{given, arrivedOf}
 use Rattle.demands.specs.Presenting.{arrival}
-use Rattle.demands.specs.Numbers.{card, empty, Numbers}
+use Rattle.demands.proofs.Numbers.{card, empty, Numbers}
 use Rattle.demands.proofs.Arrivals.{smbus-found}
 
 -- the good frame's packet, given to the message rules

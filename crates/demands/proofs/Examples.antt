@@ -50,7 +50,7 @@ use Rattle.rack.specs.Arrivals as carrier
 use Rattle.rack.specs.Arrivals.{Brought, bySmbus, byPcc, byRing, brings}
 use Rattle.rack.specs.Answers.{given, nothing, arrivedOf}
 use Rattle.demands.specs.Presenting.{arrival}
-use Rattle.demands.specs.Numbers.{card, empty, packetWith}
+use Rattle.demands.proofs.Numbers.{card, empty, packetWith}
 use Rattle.demands.proofs.Checked.{literal-brought}
 use Rattle.demands.proofs.Demands as demands
 use Rattle.demands.proofs.Steps.{stranger, gathering, middles, steps}

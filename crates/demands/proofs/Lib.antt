@@ -1,3 +1,4 @@
+pub mod Numbers
 pub mod Presented
 pub mod Outputs
 pub mod Arrivals

@@ -21,7 +21,7 @@ use Rattle.decision.specs.Decision.{decided}
 use Rattle.receiver.specs.Step.{refused, held, stepOf}
 use Rattle.messages.specs.Run.{give, free}
 use Rattle.messages.specs.Message.{Item, packet, between, Starts, Middles, OneMessage, slotFor}
-use Rattle.demands.specs.Numbers.{card, empty, packetWith}
+use Rattle.demands.proofs.Numbers.{card, empty, packetWith}
 
 -- a receiver with another EID
 abbrev pub stranger : Receiver

@@ -27,7 +27,7 @@ use Rattle.transcript.specs.State.{start, oneMore, withPacket}
 use Rattle.transcript.specs.Frame.{frameOf}
 use Rattle.transcript.specs.Taking as transcript
 use Rattle.demands.specs.Presenting.{arrival}
-use Rattle.demands.specs.Numbers.{card, empty, packetWith}
+use Rattle.demands.proofs.Numbers.{card, empty, packetWith}
 use Rattle.demands.proofs.Arrivals.{every-region, every-ring}
 use Rattle.demands.proofs.Checked.{literal-brought}
 use Rattle.demands.proofs.Steps.{gathering, steps}

@@ -1,2 +1,1 @@
 pub mod Presenting
-pub mod Numbers

@@ -5,14 +5,13 @@ use mathlib.Core.Bool.{Bool}
 use mathlib.Core.List.{List}
 use mathlib.Core.Logic.{by-cases}
 use native.Mathlib.Decide.{decLt}
-use native.Mathlib.Nat.{add-zero}
 use Prim.Native.Nat.{ℕ, _+_, _-_, _%_, _≤_, _<_, min}
 use native.Mathlib.Omega.{arith}
-use lib.Dec.{lit<}
 use lib.ListN.{length, getD, drop, length-take, length-drop, length-append}
 use lib.Seq.{ext-getD, getD-take, getD-drop, drop-at}
 use Rattle.octets.specs.Bytes.{fronted}
 use Rattle.octets.specs.Words.{lowFirst, wordAt, wordBytes}
+use Rattle.octets.proofs.Words.{word-same}
 use Rattle.pcc.specs.Layout.{regionOf}
 use Rattle.pcc.specs.Reading.{refusalOf, sizeOf, partOf, packetOf, notifyOf}
 use Rattle.pcc.specs.Writing.{writeRefusal, writtenOf}
@@ -32,12 +31,6 @@ pub record SameAnswers (most id : ℕ) (a b : List ℕ) : Type 0 where
   pub sizes : sizeOf most a id ≡ sizeOf most b id
   pub flags : notifyOf most a id ≡ notifyOf most b id
 
--- the same four bytes make the same word
-four-same : (a b : List ℕ) (at : ℕ) → ((k : ℕ) → k < 4 → getD a (at + k) 0 ≡ getD b (at + k) 0)
-    → wordAt lowFirst a at ≡ wordAt lowFirst b at
-unfolding wordAt
-four-same a b at e = cc (simp add-zero at (e 0 (lit< tt)), e 1 (lit< tt), e 2 (lit< tt), e 3 (lit< tt))
-
 -- bit 0 of a word is bit 0 of its lowest byte
 low-bit : (s : List ℕ) → wordAt lowFirst s 4 % 2 ≡ getD s 4 0 % 2
 unfolding wordAt
@@ -45,13 +38,13 @@ low-bit s = omega arith
 
 module _ {most id : ℕ} {a b : List ℕ} (same : Alike most id a b) where
   signatures-same : wordAt lowFirst a 0 ≡ wordAt lowFirst b 0
-  signatures-same = four-same a b 0 (λ k h. same .signatures (0 + k) (omega arith))
+  signatures-same = word-same lowFirst a b 0 0 (λ k h. same .signatures (0 + k) (omega arith))
 
   lengths-same : wordAt lowFirst a 8 ≡ wordAt lowFirst b 8
-  lengths-same = four-same a b 8 (λ k h. same .up-to-packet (8 + k) (omega arith) (omega arith))
+  lengths-same = word-same lowFirst a b 8 8 (λ k h. same .up-to-packet (8 + k) (omega arith) (omega arith))
 
   commands-same : wordAt lowFirst a 12 ≡ wordAt lowFirst b 12
-  commands-same = four-same a b 12 (λ k h. same .up-to-packet (12 + k) (omega arith) (omega arith))
+  commands-same = word-same lowFirst a b 12 12 (λ k h. same .up-to-packet (12 + k) (omega arith) (omega arith))
 
   numbers-same : refusalOf most a id ≡ refusalOf most b id
   unfolding refusalOf

@@ -21,11 +21,11 @@ use Rattle.rack.specs.declared.answer.NoPacket.the-variants as code
 -- "An arrival is one carrier's bytes with the numbers its reader needs."
 pub data Arrival : Type 0 where
   -- a frame, and the own address
-  bySmbus : List ℕ → ℕ → Arrival
+  bySmbus : (frame : List ℕ) (own : ℕ) → Arrival
   -- a region, and its subspace id
-  byPcc : List ℕ → ℕ → Arrival
+  byPcc : (region : List ℕ) (id : ℕ) → Arrival
   -- a ring, its configured length, the interface's flags, the read and the write pointer, and the output
-  byRing : List ℕ → ℕ → Flags → ℕ → ℕ → List ℕ → Arrival
+  byRing : (bytes : List ℕ) (configured : ℕ) (flags : Flags) (read write : ℕ) (out : List ℕ) → Arrival
 
 -- why an arrival brings no packet, in document 01's numbers
 pub data Without : Type 0 where
@@ -48,14 +48,14 @@ pub data Brought : Type 0 where
   none : Without → Brought
 
 -- a frame: the packet with its source address, or the refusal's number
-unfoldable pub smbusBrings : ℕ → List ℕ → ℕ → Brought
+unfoldable pub smbusBrings : (most : ℕ) (frame : List ℕ) (own : ℕ) → Brought
 smbusBrings most frame own =
     pick (eqb (smbus.refusalOf most frame own) 0)
     (packet (smbus.packetOf most frame own) (Source (smbus.sourceAddressOf most frame own)))
     (none (refused (smbus.refusalOf most frame own)))
 
 -- a region: the packet with its notify flag, or the refusal's number
-unfoldable pub pccBrings : ℕ → List ℕ → ℕ → Brought
+unfoldable pub pccBrings : (most : ℕ) (region : List ℕ) (id : ℕ) → Brought
 pccBrings most region id =
     pick (eqb (pcc.refusalOf most region id) 0)
     (packet (pcc.packetOf most region id) (Notify (pcc.notifyOf most region id)))
@@ -68,7 +68,8 @@ ringSays s ring.empty = none empty
 ringSays s (ring.skipped number next) = none (skipped number next)
 ringSays s (ring.refused number) = none (refused number)
 
-unfoldable pub ringBrings : ℕ → List ℕ → ℕ → Flags → ℕ → ℕ → List ℕ → Brought
+unfoldable pub ringBrings : (most : ℕ) (bytes : List ℕ) (configured : ℕ) (flags : Flags) (read write : ℕ) (out : List ℕ)
+    → Brought
 ringBrings most bytes configured flags read write out =
     ringSays (roundFrom read bytes)
     (ring.foundOf most bytes configured (mayRead (stateOf flags)) read write (length out))

@@ -11,13 +11,13 @@ use slots::Receiver;
 ghost use mathlib.Core.Path.{_≡_};
 ghost use Rattle.mmbi.specs.Interface.{stateOf, mayRead};
 ghost use Rattle.ring.specs.Reading.{outputOf};
-ghost use Rattle.rack.specs.Arrivals.{packet as carried, smbusBrings, pccBrings, ringBrings};
+ghost use Rattle.rack.specs.Arrivals.{packet as brought, smbusBrings, pccBrings, ringBrings};
 ghost use Rattle.rack.specs.Answers.{afterArrival, arrivedOf};
 
 // A frame at our own address.
 pub fn from_smbus(frame: &[u8], own: u8, receiver: Receiver, memory: &mut [u8]) -> Received
-    ensures { λ r. ⌜ afterArrival r (now (memory .exit)) ≡ arrivedOf 64 receiver (now (memory .entry))
-        (smbusBrings 64 (now (frame .entry)) own) ⌝ }
+    ensures { λ r. ⌜ afterArrival r (now (memory .exit))
+        ≡ arrivedOf 64 receiver (now (memory .entry)) (smbusBrings 64 (now (frame .entry)) own) ⌝ }
 {
     let carried = smbus::read(frame, own);
     let smbus::Carried::Packet { source } = carried else {
@@ -28,8 +28,8 @@ pub fn from_smbus(frame: &[u8], own: u8, receiver: Receiver, memory: &mut [u8]) 
 
 // A region under its subspace id.
 pub fn from_pcc(region: &[u8], id: u32, receiver: Receiver, memory: &mut [u8]) -> Received
-    ensures { λ r. ⌜ afterArrival r (now (memory .exit)) ≡ arrivedOf 64 receiver (now (memory .entry))
-        (pccBrings 64 (now (region .entry)) id) ⌝ }
+    ensures { λ r. ⌜ afterArrival r (now (memory .exit))
+        ≡ arrivedOf 64 receiver (now (memory .entry)) (pccBrings 64 (now (region .entry)) id) ⌝ }
 {
     let carried = pcc::read(region, id);
     let pcc::Carried::Packet { size, notify } = carried else {
@@ -54,14 +54,15 @@ pub fn from_ring(
     receiver: Receiver,
     memory: &mut [u8],
 ) -> Received
-    ensures { λ r. ⌜ afterArrival r (now (memory .exit)) ≡ arrivedOf 64 receiver (now (memory .entry))
+    ensures arrival { λ r. ⌜ afterArrival r (now (memory .exit))
+        ≡ arrivedOf 64 receiver (now (memory .entry))
         (ringBrings 64 (now (bytes .entry)) configured flags (pointers .read) (pointers .write) (now (out .entry))) ⌝ }
-    ensures { λ _. ⌜ now (out .exit) ≡ outputOf 64 (now (bytes .entry)) configured (mayRead (stateOf flags))
+    ensures output { λ _. ⌜ now (out .exit) ≡ outputOf 64 (now (bytes .entry)) configured (mayRead (stateOf flags))
         (pointers .read) (pointers .write) (now (out .entry)) ⌝ }
 {
-    let taken = ring::read(bytes, configured, flags, pointers, out);
-    let ring::Carried::Packet(size, next) = taken else {
-        return no_packet(receiver, why::ring(taken));
+    let carried = ring::read(bytes, configured, flags, pointers, out);
+    let ring::Carried::Packet(size, next) = carried else {
+        return no_packet(receiver, why::ring(carried));
     };
     give(receiver, memory, &out[0..size], Beside::Next(next))
 }
@@ -77,8 +78,8 @@ fn no_packet(receiver: Receiver, why: NoPacket) -> Received
 
 // The packet given to the message rules.
 fn give(receiver: Receiver, memory: &mut [u8], packet: &[u8], beside: Beside) -> Received
-    ensures { λ r. ⌜ afterArrival r (now (memory .exit)) ≡ arrivedOf 64 receiver (now (memory .entry))
-        (carried (now (packet .entry)) beside) ⌝ }
+    ensures { λ r. ⌜ afterArrival r (now (memory .exit))
+        ≡ arrivedOf 64 receiver (now (memory .entry)) (brought (now (packet .entry)) beside) ⌝ }
 {
     let given = receiver::give(receiver, memory, packet);
     let answer = given.answer;

@@ -21,10 +21,10 @@ pub fn pcc(carried: pcc::Carried) -> NoPacket
     }
 }
 
-pub fn ring(taken: ring::Carried) -> NoPacket
-    ensures { λ r. ⌜ r ≡ whyRing taken ⌝ }
+pub fn ring(carried: ring::Carried) -> NoPacket
+    ensures { λ r. ⌜ r ≡ whyRing carried ⌝ }
 {
-    match taken {
+    match carried {
         ring::Carried::Packet(_, _) => NoPacket::Empty,
         ring::Carried::Empty => NoPacket::Empty,
         ring::Carried::Skipped(refusal, next) => NoPacket::Skipped {

@@ -20,13 +20,13 @@ part-give-end : tie.Need-part-give-end
 part-give-end c =
     let read = c .before .before .before .before .before .before .before .read in
     let a = c .before .before .before .before .before .before .before .before .before .before .before .before .args in
-    let told = c .before .before .before .taken .given in
+    let told = c .before .before .before .carried .given in
     let fits = ring-fits _ _ _ (a .flags) _ _ (a .out .now) (read .result) (read .ensures .0) _ _ (told .1) in
     omega (arith, read .kept .1 .1 .1 .1 .0)
 
 returns-2 : tie.Need-returns-2
 returns-2 c =
-    let told = c .before .before .before .before .before .before .before .taken .given in
+    let told = c .before .before .before .before .before .before .before .carried .given in
     let place = c .before .before .before .before .before .before .before .before .before in
     let read = place .before .before .read in
     let a = place .before .before .before .before .before .before .before .args in

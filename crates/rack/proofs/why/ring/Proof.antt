@@ -14,5 +14,5 @@ ring-spec =
     (λ c. search needs)
     (λ c. search needs)
     (λ c. search needs)
-    (λ c. rw (c .before .taken .given .1))
-    (λ c. rw (c .before .taken2 .given .1)))
+    (λ c. rw (c .before .carried .given .1))
+    (λ c. rw (c .before .carried2 .given .1)))
