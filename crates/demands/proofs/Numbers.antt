@@ -4,7 +4,7 @@ use mathlib.Core.Path.{_≡_}
 use mathlib.Core.Bool.{true, false}
 use mathlib.Core.List.{List, [], _∷_, _++_}
 use Prim.Native.Nat.{ℕ}
-use lib.ListN.{length, replicate}
+use lib.ListN.{replicate}
 use Rattle.pec.specs.Remainder.{pecOf}
 use Rattle.mmbi.specs.declared.interface.InterfaceState.the-variants.{NormalRuntime}
 use Rattle.mmbi.specs.Interface.{flagsOf, stateOf, isTransient}

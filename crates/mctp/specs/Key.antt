@@ -4,7 +4,6 @@ use mathlib.Core.Bool.{Bool, Bool·beq, _&&_}
 use mathlib.Core.List.{List}
 use Prim.Native.Nat.{ℕ}
 use lib.Dec.{eqb}
-use Rattle.mctp.specs.declared.eid.Eid.{Eid}
 use Rattle.mctp.specs.declared.packet.Key.{Key}
 use Rattle.mctp.specs.declared.packet.Header.{Header}
 use Rattle.mctp.specs.Packet.{versionOf, destinationOf, sourceOf, startOf, endOf, sequenceOf, ownerOf, tagOf}

@@ -10,8 +10,7 @@ use native.Mathlib.Decide.{decLe}
 use mathlib.Core.Logic.{by-cases}
 use borrow.Author.Tests.{ltb-true, ltb-false, leb-true, leb-false, eqb-true, eqb-false}
 use borrow.Author.Tests.{lt-ltb, le-ltb, le-leb, lt-leb, eq-eqb, ne-eqb}
-use lib.Dec.{leb}
-use Rattle.octets.specs.Choice.{pick, within}
+use Rattle.octets.specs.Choice.{within}
 use Rattle.octets.specs.Checks.{Check, _unless_, firstFailing}
 pub use Rattle.octets.specs.Checks.{Hold}
 use Rattle.octets.proofs.Choice.{both, within-bounds, within-holds, within-below, within-above}

@@ -4,7 +4,6 @@ use mathlib.Core.Path.{_≡_}
 use Prim.Native.Nat.{ℕ}
 use contract.Lifetimes.{Lfts}
 use Rattle.octets.proofs.Choice.{determined}
-use mathlib.Core.List.{List}
 use Rattle.octets.proofs.read.part.Reads as part
 use Rattle.octets.proofs.read.byte_at.Reads as byte-at
 use Rattle.octets.proofs.word.word_low_first.Reads as word-low-first

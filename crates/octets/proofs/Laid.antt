@@ -7,7 +7,7 @@ use mathlib.Core.Logic.{_⊎_, inl, inr}
 use Prim.Native.Nat.{ℕ, zero, suc, _+_, _-_, _≤_, _<_}
 use native.Mathlib.Nat.{add-zero, zero-add, add-suc, suc-add}
 use native.Mathlib.Omega.{arith}
-use lib.ListN.{length, getD, take, drop, set, length-append, length-set}
+use lib.ListN.{length, getD, take, drop, set, length-set}
 use lib.Seq.{sets-eq, length-sets, set-out, set-comm, take-suc, length-take-le, getD-set-other}
 use lib.Seq.{drop-set-lt, drop-set-add, take-set-le}
 use Rattle.octets.specs.Bytes.{part, laid, fronted}

@@ -1,6 +1,6 @@
 -- Words of four bytes: PCC's stand with the lowest byte first, MMBI's with the highest (003, 4.2: "Big Endian").
 -- Assumes nothing.
-use Prim.Native.Nat.{ℕ, zero, suc, _+_, _*_, _/_, _%_}
+use Prim.Native.Nat.{ℕ, _+_, _*_, _/_, _%_}
 use mathlib.Core.List.{List, [], _∷_}
 use lib.ListN.{getD}
 

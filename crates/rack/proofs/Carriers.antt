@@ -37,7 +37,7 @@ use Rattle.ring.proofs.Rounds.{round-length}
 use Rattle.ring.proofs.Readings.{Good, good, good-short}
 use Rattle.rack.specs.declared.answer.Beside.the-variants.{Source, Notify}
 use Rattle.rack.specs.Why.{whySmbus, whyPcc, whyRing}
-use Rattle.rack.specs.Arrivals.{Brought, packet, none, without, smbusBrings, pccBrings, ringSays, ringBrings}
+use Rattle.rack.specs.Arrivals.{packet, none, without, smbusBrings, pccBrings, ringSays, ringBrings}
 
 not-zero : (why : Refusal) {n : ℕ} → n ≡ numberOf why → n ≡ 0 → ⊥
 not-zero why e z = omega (arith, number-positive why)

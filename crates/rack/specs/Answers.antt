@@ -1,7 +1,7 @@
 -- What an arrival call answers and leaves (document 01, "Putting messages together" and the refusal table).
 -- Assumes nothing.
 use Prim.Native.Nat.{ℕ}
-use mathlib.Core.List.{List, []}
+use mathlib.Core.List.{List}
 use Rattle.slots.specs.declared.state.Receiver.{Receiver}
 use Rattle.receiver.specs.Step as rules
 use Rattle.rack.specs.declared.answer.Beside.{Beside}

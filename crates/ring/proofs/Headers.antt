@@ -4,10 +4,9 @@
 use mathlib.Core.Path.{_≡_, refl, ap, sym, _∙_}
 use mathlib.Core.List.{List, _++_, append-assoc}
 use Prim.Native.Nat.{ℕ, _+_, _-_, _*_, _/_, _%_, _^_, _≤_, _<_}
-use native.Mathlib.Nat.{add-zero, zero-add}
+use native.Mathlib.Nat.{zero-add}
 use native.Mathlib.Omega.{arith}
-use lib.Dec.{lit<}
-use lib.ListN.{length, getD, take, drop, replicate, length-append, length-drop, length-replicate, List·getD-append}
+use lib.ListN.{length, take, drop, replicate, length-append, length-drop, length-replicate, List·getD-append}
 use lib.Seq.{getD-drop, take-at, drop-at}
 use Rattle.octets.specs.Words.{highFirst, wordAt, wordBytes}
 use Rattle.octets.proofs.Words.{word-length, word-same, word-back}

@@ -1,6 +1,6 @@
 -- `octets::copy::lay` meets its contract. The invariant: what is laid so far is the front of `new`.
 -- Assumes nothing.
-use lib.ListN.{length, take, getD, length-set}
+use lib.ListN.{length, take, length-set}
 use mathlib.Core.Logic.{by-cases}
 use mathlib.Core.List.{List}
 use native.Mathlib.Decide.{decLt}

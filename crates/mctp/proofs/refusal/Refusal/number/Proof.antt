@@ -1,7 +1,6 @@
 -- `mctp::refusal::Refusal::number` meets its contract: at each arm the match has told which refusal it is.
 -- Assumes nothing.
 use mathlib.Core.Path.{_≡_, ap, sym}
-use Prim.Native.Nat.{ℕ}
 use borrow.Author.Needs.{needs}
 use Rattle.mctp.specs.declared.refusal.Refusal.{Refusal}
 use Rattle.mctp.specs.Refusals.{numberOf}
