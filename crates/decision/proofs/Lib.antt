@@ -1,4 +1,4 @@
-pub mod Cases
+pub mod Ruled
 pub mod Decided
 pub mod Determined
 pub mod Literal

@@ -27,7 +27,8 @@ use Rattle.ring.specs.Answers.{enteredIn}
 use Rattle.ring.proofs.write.Reads as ring-write
 use Rattle.descriptor.specs.Reading.{configuredOf}
 use Rattle.descriptor.proofs.read_descriptor.Reads as read-descriptor
-use Rattle.slots.specs.Changes.{keeps, setUpOf}
+use Rattle.mctp.specs.Refusals.{outcomeNumber}
+use Rattle.slots.specs.Changes.{setUpRefusal, setUpOf}
 use Rattle.slots.proofs.set_up.Reads as set-up
 use Rattle.window.specs.Places.{setupOf, placeIn, areaOf}
 use Rattle.window.specs.Words.{interfaceIn, storeRefusal, stored, storedPointer}
@@ -114,5 +115,7 @@ store-pointer-is κs a r e p = p
 pub transient-is : (κs : Lfts 0) (a r e : _) → transient.Post κs a r e → r ≡ isTransient (a .0)
 transient-is κs a r e p = p
 
-pub set-up-is : (κs : Lfts 0) (a r e : _) → set-up.Post κs a r e → keeps r ≡ setUpOf (record { own = a .0 })
+pub set-up-is : (κs : Lfts 0) (a r e : _) → set-up.Post κs a r e
+    → (outcomeNumber (r .outcome) ≡ setUpRefusal (record { own = a .0 }))
+    × (r .receiver ≡ setUpOf (record { own = a .0 }))
 set-up-is κs a r e p = p

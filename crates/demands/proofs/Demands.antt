@@ -51,8 +51,8 @@ use Rattle.ring.proofs.Writings.{entered-not-1}
 use Rattle.slots.specs.declared.state.Receiver.{Receiver}
 use Rattle.slots.specs.declared.state.Setup.{Setup}
 use Rattle.slots.specs.State.{rightState}
-use Rattle.slots.specs.Changes.{fresh, freedOf}
-use Rattle.slots.proofs.Kept.{freed-refused}
+use Rattle.slots.specs.Changes.{fresh, freeRefusal, freedOf}
+use Rattle.slots.proofs.Changes.{freed-refused}
 use Rattle.receiver.specs.Effects.{Unchanged, SlotFreed}
 use Rattle.receiver.specs.Step.{refused, stepOf}
 use Rattle.receiver.proofs.Laws.{refused-unchanged, refused-freed}
@@ -105,7 +105,7 @@ pub given-and-freed : (r : Receiver) (m p : List ℕ) (n : ℕ) → stepOf 64 r 
 given-and-freed = refused-freed 64
 
 -- a slot that is refused to be freed: the receiver stays, and no memory is lent to the call
-pub not-freed : (r : Receiver) (i : ℕ) → (freedOf 64 r i .number ≡ 0 → ⊥) → freedOf 64 r i .receiver ≡ r
+pub not-freed : (r : Receiver) (i : ℕ) → (freeRefusal 64 r i ≡ 0 → ⊥) → freedOf 64 r i ≡ r
 not-freed = freed-refused 64
 
 -- "and a ring packet that was already copied out": the output holds it at its front, and is unchanged where there is

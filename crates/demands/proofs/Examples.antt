@@ -108,7 +108,7 @@ pub given-and-freed : SlotFreed (keyOf wrong) gathering empty (stepOf 64 gatheri
 given-and-freed = demands.given-and-freed gathering empty wrong 20 (steps .not-next) (lit≤ tt)
 
 -- slot 4, which no receiver has
-pub not-freed : freedOf 64 card 4 .receiver ≡ card
+pub not-freed : freedOf 64 card 4 ≡ card
 not-freed = demands.not-freed card 4 (λ e. omega (arith, steps .no-slot))
 
 -- the window of document 003's tables, worked out by hand

@@ -15,7 +15,7 @@ use Rattle.slots.specs.declared.state.Receiver.{Receiver}
 use Rattle.slots.specs.declared.state.SlotState.the-variants.{Free, Gathering}
 use Rattle.slots.specs.Slots.{slotAt, isFree, firstOf, slotOf, lowestFree}
 use Rattle.slots.specs.State.{multiple, rightNumbers, rightSlot, clash, rightState}
-use Rattle.slots.specs.Changes.{fresh, freedOf}
+use Rattle.slots.specs.Changes.{fresh, freeRefusal}
 use Rattle.decision.specs.Rules.{after, onStart, gathered, onFollow, ruled}
 use Rattle.decision.specs.Decision.{decided}
 use Rattle.receiver.specs.Step.{refused, held, stepOf}
@@ -63,12 +63,13 @@ pub record Steps : Type 0 where
   pub one-packet : Starts 64 (card .setup) literalPacket
   pub room : slotFor (card .slots) (keyOf literalPacket) ≡ 0
   pub right : rightState 64 card ≡ true
-  pub no-slot : freedOf 64 card 4 .number ≡ 1
+  pub no-slot : freeRefusal 64 card 4 ≡ 1
   pub train : OneMessage 64 card empty (packetWith 0xBD 64 1) middles (packetWith 0x5D 2 3)
 
 pub steps : Steps
 unfolding stepOf decided ruled onStart onFollow gathered
-    after slotOf lowestFree firstOf headerOf keyOf sameKey rightState rightSlot rightNumbers multiple clash laid freedOf
+    after slotOf lowestFree firstOf headerOf keyOf sameKey rightState rightSlot rightNumbers multiple clash laid
+    freeRefusal
     slotFor Middles
 steps =
     record {

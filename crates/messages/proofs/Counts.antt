@@ -9,7 +9,7 @@ use Rattle.octets.specs.Bytes.{laid}
 use Rattle.mctp.specs.Key.{keyOf, headerOf, sameKey}
 use Rattle.slots.specs.Slots.{firstOf, slotOf, lowestFree}
 use Rattle.slots.specs.State.{multiple, rightNumbers, rightSlot, clash, rightState}
-use Rattle.slots.specs.Changes.{freeSlot, freedOf}
+use Rattle.slots.specs.Changes.{freeSlot, freeRefusal, freedOf}
 use Rattle.slots.proofs.Literal.{with-slots, card, gathering}
 use Rattle.decision.specs.Rules.{after, onStart, gathered, onFollow, ruled}
 use Rattle.decision.specs.Decision.{decided}
@@ -42,7 +42,7 @@ up-to-the-end = refl
 pub fifth-key : run 64 (with-slots (gathering 4 64) (gathering 5 64) (gathering 6 64) (gathering 7 64)) empty
     (give (packet 0x88 1 7) ∷ free 2 ∷ give (packet 0x88 1 7) ∷ []) .answers
     ≡ rules (refused 18) ∷ freed 0 ∷ rules (held 2 1 false) ∷ []
-unfolding run stepOf freedOf decided ruled onStart
+unfolding run stepOf freeRefusal freedOf decided ruled onStart
     onFollow gathered after slotOf lowestFree firstOf headerOf keyOf sameKey rightState rightSlot rightNumbers multiple
     clash laid
 fifth-key = refl

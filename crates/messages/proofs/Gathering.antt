@@ -33,7 +33,7 @@ use Rattle.slots.proofs.Numbers.{gathering-of}
 use Rattle.decision.specs.Checks.{packetOrder, sourceOrder}
 use Rattle.decision.specs.Rules.{put, refuse, after, onStart, gathered, follow, onFollow, ruled}
 use Rattle.decision.specs.Decision.{checkOrder, decided}
-use Rattle.decision.proofs.Cases.{ruled-start, ruled-follow}
+use Rattle.decision.proofs.Ruled.{ruled-start, ruled-follow}
 use Rattle.decision.proofs.Decided.{every-decision}
 use Rattle.receiver.specs.Step.{refused, held, done, Left, carriedOut, stepOf}
 use Rattle.receiver.proofs.Laws.{step-right, one-slot, refused-unchanged}

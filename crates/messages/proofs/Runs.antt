@@ -8,8 +8,9 @@ use native.Mathlib.Decide.{decLt}
 use borrow.Author.Tests.{eqb-false, ltb-true, not-true}
 use lib.Dec.{eqb, ltb, lit<}
 use Rattle.octets.specs.Bytes.{laid}
-use Rattle.octets.proofs.Choice.{both}
+use Rattle.octets.proofs.Choice.{pick-elim, both}
 use Rattle.octets.proofs.Laid.{laid-length}
+use Rattle.octets.proofs.Parts.{laid-before, laid-behind, part-same}
 use Rattle.mctp.specs.Packet.{bodyOf}
 use Rattle.slots.specs.declared.state.SlotState.{SlotState}
 use Rattle.slots.specs.declared.state.SlotState.the-variants.{Free, Gathering}
@@ -20,35 +21,30 @@ use lib.ListN.{length}
 use Rattle.slots.specs.declared.state.Receiver.{Receiver}
 use Rattle.slots.specs.Slots.{slotAt}
 use Rattle.slots.specs.State.{rightState}
-use Rattle.slots.specs.Changes.{Kept, withState, freedOf}
+use Rattle.slots.specs.Changes.{withState, freedOf}
 use Rattle.slots.proofs.States.{slot-other}
-use Rattle.slots.proofs.Kept.{freed-right}
-use Rattle.octets.proofs.Choice.{pick-elim}
+use Rattle.slots.proofs.Changes.{freed-right}
 use Rattle.decision.proofs.Decided.{every-decision}
 use Rattle.receiver.specs.Step.{answerOf, carriedOut, stepOf}
-use Rattle.receiver.specs.Effects.{OneSlot}
 use Rattle.octets.proofs.Laid.{laid-before, laid-behind}
 use Rattle.octets.proofs.Parts.{part-same}
-use Rattle.receiver.proofs.Laws.{step-right, one-slot}
+use Rattle.receiver.proofs.Laws.{OneSlot, step-right, one-slot}
 use Rattle.messages.specs.Run.{Call, give, free, message, Ran, called, joined, run, intoSlot, untouched}
 
 -- a slot freed leaves the others
 pub freed-others : (most : ℕ) (r : Receiver) (i j : ℕ) → (j ≡ i → ⊥)
-    → slotAt (freedOf most r j .receiver .slots) i ≡ slotAt (r .slots) i
+    → slotAt (freedOf most r j .slots) i ≡ slotAt (r .slots) i
 unfolding freedOf
 freed-others most r i j d =
-    pick-elim (λ (k : Kept). slotAt (k .receiver .slots) i ≡ slotAt (r .slots) i) (rightState most r && ltb j 4)
-    (record { number = 0; receiver = withState r j Free })
-    (record { number = 1; receiver = r })
+    pick-elim (λ (s : Receiver). slotAt (s .slots) i ≡ slotAt (r .slots) i) (rightState most r && ltb j 4)
+    (withState r j Free) r
     (λ e. slot-other (r .slots) j i Free (λ s. d (sym s)))
     (λ e. refl)
 
-freed-one-slot : (most : ℕ) (r : Receiver) (m : List ℕ) (j : ℕ) → OneSlot r m (freedOf most r j .receiver) m
+freed-one-slot : (most : ℕ) (r : Receiver) (m : List ℕ) (j : ℕ) → OneSlot r m (freedOf most r j) m
 unfolding freedOf
 freed-one-slot most r m j =
-    pick-elim (λ (k : Kept). OneSlot r m (k .receiver) m) (rightState most r && ltb j 4)
-    (record { number = 0; receiver = withState r j Free })
-    (record { number = 1; receiver = r })
+    pick-elim (λ (s : Receiver). OneSlot r m s m) (rightState most r && ltb j 4) (withState r j Free) r
     (λ e.
     record {
       slot = j;

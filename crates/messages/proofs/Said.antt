@@ -6,7 +6,7 @@ use mathlib.Core.List.{List, [], _∷_}
 use Prim.Native.Nat.{ℕ}
 use contract.Lifetimes.{Lfts}
 use denote.Ref.{now}
-use Rattle.slots.specs.Changes.{Kept, keeps}
+use Rattle.mctp.specs.Refusals.{outcomeNumber}
 use Rattle.slots.proofs.free.Reads as freeing
 use Rattle.receiver.specs.Step.{done, left}
 use Rattle.receiver.proofs.give.Reads as giving
@@ -20,8 +20,8 @@ give-is-called κs a r e p = ap ofStep (sym p)
 
 -- `slots::free`, with any memory beside it
 pub free-is-called : (κs : Lfts 0) (a r e : _) → freeing.Post κs a r e → (m : List ℕ)
-    → called 64 (a .0) m (free (a .1 .0)) ≡ ofFreed (keeps r) m
-free-is-called κs a r e p m = ap (λ (k : Kept). ofFreed k m) (sym p)
+    → called 64 (a .0) m (free (a .1 .0)) ≡ ofFreed (outcomeNumber (r .outcome)) (r .receiver) m
+free-is-called κs a r e p m = λ i. ofFreed (sym (p .0) i) (sym (p .1) i) m
 
 -- and `messages::message`: of an answer "done", it is the message
 pub message-is-told : (κs : Lfts 1) (a r e : _) → message.Post κs a r e → (again : Bool)

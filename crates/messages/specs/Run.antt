@@ -7,7 +7,7 @@ use lib.Dec.{eqb}
 use mathlib.Core.List.{List, [], _∷_, _++_, map}
 use lib.ListN.{take, drop}
 use Rattle.slots.specs.declared.state.Receiver.{Receiver}
-use Rattle.slots.specs.Changes.{Kept, freedOf}
+use Rattle.slots.specs.Changes.{freeRefusal, freedOf}
 use Rattle.receiver.specs.Step.{Said, refused, held, done, Left, stepOf}
 
 -- a call: a packet given to the message rules, or a slot freed
@@ -47,12 +47,12 @@ ofStep l =
       memory = l .memory;
     }
 
-abbrev pub ofFreed : Kept → List ℕ → Ran
-ofFreed k m = record { answers = freed (k .number) ∷ []; messages = []; receiver = k .receiver; memory = m }
+abbrev pub ofFreed : (number : ℕ) → Receiver → List ℕ → Ran
+ofFreed number r m = record { answers = freed number ∷ []; messages = []; receiver = r; memory = m }
 
 abbrev pub called : ℕ → Receiver → List ℕ → Call → Ran
 called most r m (give p) = ofStep (stepOf most r m p)
-called most r m (free slot) = ofFreed (freedOf most r slot) m
+called most r m (free slot) = ofFreed (freeRefusal most r slot) (freedOf most r slot) m
 
 -- what came first, then what came after it
 abbrev pub joined : Ran → Ran → Ran

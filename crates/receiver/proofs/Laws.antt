@@ -3,26 +3,27 @@
 use mathlib.Core.Path.{_≡_, refl, ap, sym, _∙_}
 use mathlib.Core.Bool.{Bool, true}
 use mathlib.Core.List.{List}
-use Prim.Native.Nat.{ℕ, _+_, _*_, _≤_}
+use Prim.Native.Nat.{ℕ, _+_, _*_, _≤_, _<_}
 use native.Mathlib.Omega.{arith}
 use contract.Lifetimes.{Lfts}
 use lib.Dec.{lit<}
-use lib.ListN.{length}
+use lib.ListN.{length, getD}
 use Rattle.octets.proofs.Laid.{laid-length, laid-before, laid-behind}
 use Rattle.mctp.specs.Packet.{bodyOf}
 use Rattle.mctp.specs.Key.{keyOf}
 use Rattle.slots.specs.declared.state.SlotState.{SlotState}
 use Rattle.slots.specs.declared.state.SlotState.the-variants.{Free, Gathering}
 use Rattle.slots.specs.declared.state.Receiver.{Receiver}
+use Rattle.slots.specs.Slots.{slotAt}
 use Rattle.slots.specs.State.{rightState}
 use Rattle.slots.specs.Changes.{withState}
 use Rattle.slots.proofs.States.{right-of, right-holds, with-right, slot-other}
-use Rattle.slots.proofs.Kept.{free-right}
+use Rattle.slots.proofs.Changes.{free-right}
 use Rattle.decision.specs.Rules.{planned}
 use Rattle.decision.specs.Decision.{decided}
 use Rattle.decision.proofs.Decided.{every-decision}
 use Rattle.decision.proofs.decide.Reads as decide
-use Rattle.receiver.specs.Effects.{Unchanged, SlotFreed, OneSlot}
+use Rattle.receiver.specs.Effects.{Unchanged, SlotFreed}
 use Rattle.receiver.specs.Step.{refused, answerOf, carriedOut, stepOf}
 
 -- giving a packet is the decision carried out
@@ -107,6 +108,16 @@ refused-freed most r m p n e twenty =
   where
     none : (k : ℕ) → k ≡ n → k ≤ 19 → ⊥
     none k same high = omega arith
+
+-- from receiver r and memory m to r₂ and m₂: at most one slot changes, and that slot's 1,024 bytes
+pub record OneSlot (r : Receiver) (m : List ℕ) (r₂ : Receiver) (m₂ : List ℕ) : Type 0 where
+  pub slot : ℕ
+  pub one-of-four : slot < 4
+  pub setup : r₂ .setup ≡ r .setup
+  pub others : (j : ℕ) → (j ≡ slot → ⊥) → slotAt (r₂ .slots) j ≡ slotAt (r .slots) j
+  pub size : length m₂ ≡ length m
+  pub bytes-before : (k : ℕ) → k < 1024 * slot → getD m₂ k 0 ≡ getD m k 0
+  pub bytes-behind : (k : ℕ) → 1024 * slot + 1024 ≤ k → getD m₂ k 0 ≡ getD m k 0
 
 -- a packet changes at most one slot and that slot's 1,024 bytes
 pub one-slot : (most : ℕ) (r : Receiver) (m p : List ℕ)

@@ -12,8 +12,8 @@ use Rattle.mctp.specs.declared.refusal.Outcome.{Outcome}
 use Rattle.mctp.specs.declared.refusal.Outcome.the-variants.{Good, Refused}
 use Rattle.slots.specs.declared.change.Changed.{Changed}
 use Rattle.mctp.specs.Refusals.{outcomeNumber}
-use Rattle.slots.specs.Changes.{Kept, keeps, withState}
-use Rattle.slots.proofs.Kept.{freed-good, freed-wrong}
+use Rattle.slots.specs.Changes.{withState}
+use Rattle.slots.proofs.Changes.{freed-good, freed-wrong}
 use Rattle.slots.proofs.change.set_up.Reads as set-up
 use Rattle.slots.proofs.change.free.Reads as free
 use Rattle.slots.proofs.change.with_state.Reads as with-state
@@ -31,16 +31,19 @@ outcome-injective Good (Refused s) e = absurd (omega (arith, number-positive s))
 outcome-injective (Refused r) Good e = absurd (omega (arith, number-positive r))
 outcome-injective (Refused r) (Refused s) e = ap Refused (number-injective r s e)
 
-keeps-injective : (a b : Changed) → keeps a ≡ keeps b → a ≡ b
-keeps-injective a b e =
-    let outcome = outcome-injective (a .outcome) (b .outcome) (ap (λ (k : Kept). k .number) e) in
-    λ i. record { outcome = outcome i; receiver = e i .receiver }
+changed-same : (a b : Changed) → outcomeNumber (a .outcome) ≡ outcomeNumber (b .outcome) → a .receiver ≡ b .receiver
+    → a ≡ b
+changed-same a b number receiver =
+    let outcome = outcome-injective (a .outcome) (b .outcome) number in
+    λ i. record { outcome = outcome i; receiver = receiver i }
 
 pub set-up-determined : (κs : Lfts 0) (a r q e f : _) → set-up.Post κs a r e → set-up.Post κs a q f → r ≡ q
-set-up-determined κs a r q e f p o = keeps-injective r q (determined p o)
+set-up-determined κs a r q e f p o =
+    changed-same r q (determined (p .0) (o .0)) (determined (p .1) (o .1))
 
 pub free-determined : (κs : Lfts 0) (a r q e f : _) → free.Post κs a r e → free.Post κs a q f → r ≡ q
-free-determined κs a r q e f p o = keeps-injective r q (determined p o)
+free-determined κs a r q e f p o =
+    changed-same r q (determined (p .0) (o .0)) (determined (p .1) (o .1))
 
 pub with-state-determined : (κs : Lfts 0) (a r q e f : _) → with-state.Post κs a r e → with-state.Post κs a q f → r ≡ q
 with-state-determined κs a r q e f p o = determined p o
@@ -65,12 +68,18 @@ state-at-determined κs a r q e f p o = determined p o
 
 -- What `right` says is what `free` goes by.
 pub right-is-freed : (κs : Lfts 0) (a e : _) → right.Post κs a true e → (i : ℕ) (r f : _) → i < 4
-    → free.Post κs (a .0, (i, tt)) r f → keeps r ≡ record { number = 0; receiver = withState (a .0) i Free }
-right-is-freed κs a e p i r f h o = o ∙ freed-good 64 (a .0) i (sym p) h
+    → free.Post κs (a .0, (i, tt)) r f
+    → (outcomeNumber (r .outcome) ≡ 0) × (r .receiver ≡ withState (a .0) i Free)
+right-is-freed κs a e p i r f h o =
+    let good = freed-good 64 (a .0) i (sym p) h in
+    (o .0 ∙ good .0, o .1 ∙ good .1)
 
 pub wrong-is-kept : (κs : Lfts 0) (a e : _) → right.Post κs a false e → (i : ℕ) (r f : _)
-    → free.Post κs (a .0, (i, tt)) r f → keeps r ≡ record { number = 1; receiver = a .0 }
-wrong-is-kept κs a e p i r f o = o ∙ freed-wrong 64 (a .0) i (sym p)
+    → free.Post κs (a .0, (i, tt)) r f
+    → (outcomeNumber (r .outcome) ≡ 1) × (r .receiver ≡ a .0)
+wrong-is-kept κs a e p i r f o =
+    let wrong = freed-wrong 64 (a .0) i (sym p) in
+    (o .0 ∙ wrong .0, o .1 ∙ wrong .1)
 
 -- No call asks anything of its arguments first.
 pub no-requires : ((κs : Lfts 0) (a : _) → set-up.Pre κs a)

@@ -1,6 +1,6 @@
 pub mod States
 pub mod Found
 pub mod Numbers
-pub mod Kept
+pub mod Changes
 pub mod Determined
 pub mod Literal

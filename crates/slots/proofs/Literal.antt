@@ -11,7 +11,7 @@ use Rattle.slots.specs.declared.state.SlotState.the-variants.{Gathering}
 use Rattle.slots.specs.declared.state.Receiver.{Receiver}
 use Rattle.slots.specs.Slots.{firstOf, slotOf, lowestFree}
 use Rattle.slots.specs.State.{multiple, rightNumbers, rightSlot, clash, rightState}
-use Rattle.slots.specs.Changes.{freeSlot, fresh, setUpOf, freedOf}
+use Rattle.slots.specs.Changes.{freeSlot, fresh, setUpRefusal, setUpOf, freeRefusal, freedOf}
 
 -- the receiver of EID 9 with these slots
 abbrev pub with-slots : Slot → Slot → Slot → Slot → Receiver
@@ -56,10 +56,10 @@ near = map (λ (k : Key). slot k 0 64 64) keys
 
 pub record Literals : Type 0 where
   -- "The receiver has an own EID (0 or 8 to 254)"
-  pub own-eids : map (λ (e : ℕ). setUpOf (record { own = record { 0 = e } }) .number) (0 ∷ 8 ∷ 254 ∷ 1 ∷ 7 ∷ 255 ∷ [])
+  pub own-eids : map (λ (e : ℕ). setUpRefusal (record { own = record { 0 = e } })) (0 ∷ 8 ∷ 254 ∷ 1 ∷ 7 ∷ 255 ∷ [])
       ≡ 0 ∷ 0 ∷ 0 ∷ 1 ∷ 1 ∷ 1 ∷ []
   -- and the receiver is set up with it; refused, with the null EID
-  pub own-kept : map (λ (e : ℕ). setUpOf (record { own = record { 0 = e } }) .receiver .setup .own .0)
+  pub own-kept : map (λ (e : ℕ). setUpOf (record { own = record { 0 = e } }) .setup .own .0)
       (0 ∷ 8 ∷ 254 ∷ 7 ∷ [])
       ≡ 0 ∷ 8 ∷ 254 ∷ 0 ∷ []
   -- "unit is 1 to 64"
@@ -87,13 +87,15 @@ pub record Literals : Type 0 where
       ≡ 1 ∷ 3 ∷ 4 ∷ []
   -- "A separate call frees slot 0 to 3 (any other number: 1)"
   pub freed : map (freedOf 64 (with-slots a b c (gathering 4 64))) (2 ∷ 3 ∷ 4 ∷ [])
-      ≡ record { number = 0; receiver = with-slots a b freeSlot (gathering 4 64) }
-      ∷ record { number = 0; receiver = with-slots a b c freeSlot }
-      ∷ record { number = 1; receiver = with-slots a b c (gathering 4 64) }
+      ≡ with-slots a b freeSlot (gathering 4 64)
+      ∷ with-slots a b c freeSlot
+      ∷ with-slots a b c (gathering 4 64)
       ∷ []
+  pub freed-numbers : map (freeRefusal 64 (with-slots a b c (gathering 4 64))) (2 ∷ 3 ∷ 4 ∷ []) ≡ 0 ∷ 0 ∷ 1 ∷ []
 
 pub literals : Literals
-unfolding setUpOf freedOf slotOf lowestFree firstOf sameKey rightState rightSlot rightNumbers multiple clash
+unfolding setUpRefusal setUpOf freeRefusal freedOf slotOf lowestFree firstOf sameKey rightState rightSlot rightNumbers
+    multiple clash
 literals =
     record {
       own-eids = refl;
@@ -107,4 +109,5 @@ literals =
       slots-of = refl;
       lowest = refl;
       freed = refl;
+      freed-numbers = refl;
     }

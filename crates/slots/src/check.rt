@@ -1,14 +1,36 @@
 // The state check: straight comparisons, one remainder for each gathering slot.
 use crate::state::Receiver;
 use crate::state::Setup;
+use crate::state::Slot;
 use crate::state::SlotState;
-use crate::state::state_of;
 use mctp::Eid;
 use mctp::Key;
 ghost use mathlib.Core.Path.{_≡_};
 ghost use Rattle.slots.specs.Setup.{oursOf};
 ghost use Rattle.slots.specs.Slots.{hasKey};
 ghost use Rattle.slots.specs.State.{multiple, rightNumbers, rightSlot, clash, fourRight, fourApart, rightState};
+
+pub fn right(receiver: Receiver) -> bool
+    ensures { λ r. ⌜ r ≡ rightState 64 receiver ⌝ }
+{
+    right_within(mctp::LARGEST_BODY, receiver)
+}
+
+// The check with a largest body of `most`.
+pub fn right_within(most: usize, receiver: Receiver) -> bool
+    ensures { λ r. ⌜ r ≡ rightState most receiver ⌝ }
+{
+    let setup = receiver.setup;
+    let slots = receiver.slots;
+    let a = slots[0];
+    let b = slots[1];
+    let c = slots[2];
+    let d = slots[3];
+    mctp::body_right(most)
+        & setup.own.is_endpoint()
+        & four_right(most, setup, a, b, c, d)
+        & four_apart(a, b, c, d)
+}
 
 // Whether 16 lets this destination through.
 pub fn ours(setup: Setup, destination: Eid) -> bool
@@ -18,30 +40,35 @@ pub fn ours(setup: Setup, destination: Eid) -> bool
     (destination.0 == own.0) | destination.is_null() | destination.is_broadcast()
 }
 
-fn is_multiple(unit: u8, held: u16) -> bool
-    ensures { λ r. ⌜ r ≡ multiple unit held ⌝ }
+// Whether the slot gathers for this key.
+pub fn has_key(key: Key, slot: Slot) -> bool
+    ensures { λ r. ⌜ r ≡ hasKey key (slot .state) ⌝ }
 {
-    if unit < 1 {
-        return false;
+    let state = slot.state;
+    match state {
+        SlotState::Free => false,
+        SlotState::Gathering {
+            key: own,
+            sequence: _,
+            unit: _,
+            held: _,
+        } => mctp::same_key(own, key),
     }
-    let all = held as u32;
-    let each = unit as u32;
-    all % each == 0
 }
 
-fn right_numbers(most: usize, sequence: u8, unit: u8, held: u16) -> bool
-    ensures { λ r. ⌜ r ≡ rightNumbers most sequence unit held ⌝ }
+fn four_right(most: usize, setup: Setup, a: Slot, b: Slot, c: Slot, d: Slot) -> bool
+    ensures { λ r. ⌜ r ≡ fourRight most setup (a .state) (b .state) (c .state) (d .state) ⌝ }
 {
-    ((unit as usize) <= most)
-        & is_multiple(unit, held)
-        & (1 <= held)
-        & (held <= 1024)
-        & (sequence <= 3)
+    right_slot(most, setup, a)
+        & right_slot(most, setup, b)
+        & right_slot(most, setup, c)
+        & right_slot(most, setup, d)
 }
 
-fn right_slot(most: usize, setup: Setup, state: SlotState) -> bool
-    ensures { λ r. ⌜ r ≡ rightSlot most setup state ⌝ }
+fn right_slot(most: usize, setup: Setup, slot: Slot) -> bool
+    ensures { λ r. ⌜ r ≡ rightSlot most setup (slot .state) ⌝ }
 {
+    let state = slot.state;
     match state {
         SlotState::Free => true,
         SlotState::Gathering {
@@ -57,54 +84,30 @@ fn right_slot(most: usize, setup: Setup, state: SlotState) -> bool
     }
 }
 
-// Whether the slot gathers for this key.
-pub fn has_key(key: Key, state: SlotState) -> bool
-    ensures { λ r. ⌜ r ≡ hasKey key state ⌝ }
+fn right_numbers(most: usize, sequence: u8, unit: u8, held: u16) -> bool
+    ensures { λ r. ⌜ r ≡ rightNumbers most sequence unit held ⌝ }
 {
-    match state {
-        SlotState::Free => false,
-        SlotState::Gathering {
-            key: own,
-            sequence: _,
-            unit: _,
-            held: _,
-        } => mctp::same_key(own, key),
-    }
+    ((unit as usize) <= most)
+        & is_multiple(unit, held)
+        & (1 <= held)
+        & (held <= 1024)
+        & (sequence <= 3)
 }
 
-fn clashes(a: SlotState, b: SlotState) -> bool
-    ensures { λ r. ⌜ r ≡ clash a b ⌝ }
+fn is_multiple(unit: u8, held: u16) -> bool
+    ensures { λ r. ⌜ r ≡ multiple unit held ⌝ }
 {
-    match a {
-        SlotState::Free => false,
-        SlotState::Gathering {
-            key,
-            sequence: _,
-            unit: _,
-            held: _,
-        } => has_key(key, b),
+    if unit < 1 {
+        return false;
     }
-}
-
-fn four_right(
-    most: usize,
-    setup: Setup,
-    a: SlotState,
-    b: SlotState,
-    c: SlotState,
-    d: SlotState,
-) -> bool
-    ensures { λ r. ⌜ r ≡ fourRight most setup a b c d ⌝ }
-{
-    right_slot(most, setup, a)
-        & right_slot(most, setup, b)
-        & right_slot(most, setup, c)
-        & right_slot(most, setup, d)
+    let all = held as u32;
+    let each = unit as u32;
+    all % each == 0
 }
 
 // Four slots, six pairs.
-fn four_apart(a: SlotState, b: SlotState, c: SlotState, d: SlotState) -> bool
-    ensures { λ r. ⌜ r ≡ fourApart a b c d ⌝ }
+fn four_apart(a: Slot, b: Slot, c: Slot, d: Slot) -> bool
+    ensures { λ r. ⌜ r ≡ fourApart (a .state) (b .state) (c .state) (d .state) ⌝ }
 {
     !clashes(a, b)
         & !clashes(a, c)
@@ -114,25 +117,17 @@ fn four_apart(a: SlotState, b: SlotState, c: SlotState, d: SlotState) -> bool
         & !clashes(c, d)
 }
 
-// The check with a largest body of `most`.
-pub fn right_within(most: usize, receiver: Receiver) -> bool
-    ensures { λ r. ⌜ r ≡ rightState most receiver ⌝ }
+fn clashes(a: Slot, b: Slot) -> bool
+    ensures { λ r. ⌜ r ≡ clash (a .state) (b .state) ⌝ }
 {
-    let setup = receiver.setup;
-    let slots = receiver.slots;
-    let a = state_of(slots[0]);
-    let b = state_of(slots[1]);
-    let c = state_of(slots[2]);
-    let d = state_of(slots[3]);
-    (64 <= most)
-        & (most <= 246)
-        & setup.own.is_endpoint()
-        & four_right(most, setup, a, b, c, d)
-        & four_apart(a, b, c, d)
-}
-
-pub fn right(receiver: Receiver) -> bool
-    ensures { λ r. ⌜ r ≡ rightState 64 receiver ⌝ }
-{
-    right_within(mctp::LARGEST_BODY, receiver)
+    let state = a.state;
+    match state {
+        SlotState::Free => false,
+        SlotState::Gathering {
+            key,
+            sequence: _,
+            unit: _,
+            held: _,
+        } => has_key(key, b),
+    }
 }

@@ -1,8 +1,8 @@
 // A slot found: by its number, by its key, or the lowest that is free. 4 stands for none.
 use crate::check::has_key;
 use crate::state::Receiver;
+use crate::state::Slot;
 use crate::state::SlotState;
-use crate::state::state_of;
 use mctp::Key;
 ghost use mathlib.Core.Path.{_≡_};
 ghost use Rattle.slots.specs.Slots.{slotAt, isFree, slotOf, lowestFree, firstTrue};
@@ -13,14 +13,40 @@ pub fn state_at(receiver: Receiver, slot: usize) -> SlotState
 {
     let slots = receiver.slots;
     if slot < 4 {
-        return state_of(slots[slot]);
+        let found = slots[slot];
+        return found.state;
     }
     SlotState::Free
 }
 
-fn is_free(state: SlotState) -> bool
-    ensures { λ r. ⌜ r ≡ isFree state ⌝ }
+pub fn slot_of(receiver: Receiver, key: Key) -> u8
+    ensures { λ r. ⌜ r ≡ slotOf (receiver .slots) key ⌝ }
 {
+    let slots = receiver.slots;
+    first_true(
+        has_key(key, slots[0]),
+        has_key(key, slots[1]),
+        has_key(key, slots[2]),
+        has_key(key, slots[3]),
+    )
+}
+
+pub fn lowest_free(receiver: Receiver) -> u8
+    ensures { λ r. ⌜ r ≡ lowestFree (receiver .slots) 0 4 ⌝ }
+{
+    let slots = receiver.slots;
+    first_true(
+        is_free(slots[0]),
+        is_free(slots[1]),
+        is_free(slots[2]),
+        is_free(slots[3]),
+    )
+}
+
+fn is_free(slot: Slot) -> bool
+    ensures { λ r. ⌜ r ≡ isFree (slot .state) ⌝ }
+{
+    let state = slot.state;
     match state {
         SlotState::Free => true,
         SlotState::Gathering {
@@ -45,28 +71,4 @@ fn first_true(a: bool, b: bool, c: bool, d: bool) -> u8
         return 2;
     }
     if d { 3 } else { 4 }
-}
-
-pub fn slot_of(receiver: Receiver, key: Key) -> u8
-    ensures { λ r. ⌜ r ≡ slotOf (receiver .slots) key ⌝ }
-{
-    let slots = receiver.slots;
-    first_true(
-        has_key(key, state_of(slots[0])),
-        has_key(key, state_of(slots[1])),
-        has_key(key, state_of(slots[2])),
-        has_key(key, state_of(slots[3])),
-    )
-}
-
-pub fn lowest_free(receiver: Receiver) -> u8
-    ensures { λ r. ⌜ r ≡ lowestFree (receiver .slots) 0 4 ⌝ }
-{
-    let slots = receiver.slots;
-    first_true(
-        is_free(state_of(slots[0])),
-        is_free(state_of(slots[1])),
-        is_free(state_of(slots[2])),
-        is_free(state_of(slots[3])),
-    )
 }

@@ -1,7 +1,6 @@
 // The receiver by value: what it was set up with, and its four slots.
 use mctp::Eid;
 use mctp::Key;
-ghost use mathlib.Core.Path.{_≡_};
 
 pub struct Setup {
     pub own: Eid,
@@ -20,12 +19,6 @@ pub enum SlotState {
 
 pub struct Slot {
     pub state: SlotState,
-}
-
-pub fn state_of(slot: Slot) -> SlotState
-    ensures { λ r. ⌜ r ≡ slot .state ⌝ }
-{
-    slot.state
 }
 
 pub struct Receiver {

@@ -1,7 +1,7 @@
 -- `decision::rules::rule` meets its contract.
 -- Assumes nothing.
 use mathlib.Core.Path.{sym, _∙_}
-use Rattle.decision.proofs.Cases.{ruled-start, ruled-follow}
+use Rattle.decision.proofs.Ruled.{ruled-start, ruled-follow}
 use borrow.Author.Needs.{needs}
 use Rattle.decision.proofs.rules.rule.Statement.{statement}
 use Rattle.decision.proofs.rules.rule.Tie as tie

@@ -1,7 +1,7 @@
 -- `receiver::giving::give_within` meets its contract: the decision, carried out.
 -- Assumes nothing.
-use mathlib.Core.Path.{ap, _∙_}
-use Rattle.receiver.specs.Step.{carriedOut, stepOf}
+use mathlib.Core.Path.{sym}
+use Rattle.receiver.specs.Step.{stepOf}
 use borrow.Author.Needs.{needs}
 use Rattle.receiver.proofs.giving.give_within.Statement.{statement}
 use Rattle.receiver.proofs.giving.give_within.Tie as tie
@@ -9,10 +9,7 @@ use Rattle.receiver.proofs.giving.give_within.Tie as tie
 returns : tie.Need-returns
 unfolding stepOf
 returns c =
-    let a = c .before .before .before .before .before .before .before .args in
-    c .before .before .carry-out .ensures
-    ∙ ap (carriedOut (a .receiver) (a .memory .now) (a .packet .now))
-    (c .before .before .before .before .decide-within .ensures)
+    rw (sym (c .before .before .before .before .decide-within .ensures)) (c .before .before .carry-out .ensures)
 
 pub give-within-spec : {M : Type 1} → statement M
 give-within-spec =

@@ -9,24 +9,22 @@ use borrow.Author.Needs.{needs}
 use Rattle.slots.proofs.check.right_within.Statement.{statement}
 use Rattle.slots.proofs.check.right_within.Tie as tie
 
+abbrev began : tie.After-body-right → tie.Start
+began c = c .before .before .before .before .before .before .before
+
 returns : tie.Need-returns
 unfolding rightState
 returns c =
-    let three = c .before .before .before .before .before in
-    let one = three .before .before .before .before in
-    let start = one .before .before .before .before in
+    let start = began (c .before .before .before) in
     let slots = start .args .receiver .slots in
     let four : length slots ≡ 4 = sym (length-map slots _) ∙ start .good .1 .0 .1 .1 .1 .0 .1 .0 .1 in
     rw (
       eq-eqb (length slots) 4 four,
       and-true,
+      c .before .before .before .body-right .ensures,
       c .before .before .is-endpoint .ensures,
       c .before .four-right .ensures,
       c .four-apart .ensures,
-      one .state-of .ensures,
-      three .before .before .state-of2 .ensures,
-      three .state-of3 .ensures,
-      c .before .before .before .state-of4 .ensures,
     )
 
 pub right-within-spec : {M : Type 1} → statement M
@@ -34,11 +32,8 @@ right-within-spec =
     tie.close
     (tie.spec
     (λ c. search needs)
-    (λ c κs. search needs)
     (λ c. search needs)
-    (λ c κs. search needs)
     (λ c. search needs)
-    (λ c κs. search needs)
     (λ c. search needs)
     (λ c κs. search needs)
     (λ c κs. search needs)

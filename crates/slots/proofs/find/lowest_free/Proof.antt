@@ -9,19 +9,14 @@ returns : tie.Need-returns
 unfolding lowestFree firstOf
 returns c =
     let four = c .before in
-    let three = four .before .before .before in
-    let two = three .before .before .before in
-    let one = two .before .before .before in
+    let three = four .before .before in
+    let two = three .before .before in
     rw (
       c .first-true .ensures,
-      one .is-free .ensures,
+      two .before .before .is-free .ensures,
       two .is-free2 .ensures,
       three .is-free3 .ensures,
       four .is-free4 .ensures,
-      one .before .state-of .ensures,
-      two .before .state-of2 .ensures,
-      three .before .state-of3 .ensures,
-      four .before .state-of4 .ensures,
     )
 
 pub lowest-free-spec : {M : Type 1} → statement M
@@ -30,15 +25,11 @@ lowest-free-spec =
     (tie.spec
     (λ c. search needs)
     (λ c κs. search needs)
+    (λ c. search needs)
     (λ c κs. search needs)
     (λ c. search needs)
     (λ c κs. search needs)
-    (λ c κs. search needs)
     (λ c. search needs)
-    (λ c κs. search needs)
-    (λ c κs. search needs)
-    (λ c. search needs)
-    (λ c κs. search needs)
     (λ c κs. search needs)
     (λ c κs. search needs)
     returns)

@@ -9,19 +9,14 @@ returns : tie.Need-returns
 unfolding slotOf firstOf
 returns c =
     let four = c .before in
-    let three = four .before .before .before in
-    let two = three .before .before .before in
-    let one = two .before .before .before in
+    let three = four .before .before in
+    let two = three .before .before in
     rw (
       c .first-true .ensures,
-      one .has-key .ensures,
+      two .before .before .has-key .ensures,
       two .has-key2 .ensures,
       three .has-key3 .ensures,
       four .has-key4 .ensures,
-      one .before .state-of .ensures,
-      two .before .state-of2 .ensures,
-      three .before .state-of3 .ensures,
-      four .before .state-of4 .ensures,
     )
 
 pub slot-of-spec : {M : Type 1} → statement M
@@ -30,15 +25,11 @@ slot-of-spec =
     (tie.spec
     (λ c. search needs)
     (λ c κs. search needs)
+    (λ c. search needs)
     (λ c κs. search needs)
     (λ c. search needs)
     (λ c κs. search needs)
-    (λ c κs. search needs)
     (λ c. search needs)
-    (λ c κs. search needs)
-    (λ c κs. search needs)
-    (λ c. search needs)
-    (λ c κs. search needs)
     (λ c κs. search needs)
     (λ c κs. search needs)
     returns)

@@ -17,4 +17,4 @@ returns-2 c =
 
 pub state-at-spec : {M : Type 1} → statement M
 state-at-spec =
-    tie.close (tie.spec (λ c. search needs) (λ c. search needs) (λ c κs. search needs) (λ c. search needs) returns-2)
+    tie.close (tie.spec (λ c. search needs) (λ c. search needs) (λ c. search needs) returns-2)

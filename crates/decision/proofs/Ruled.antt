@@ -1,4 +1,4 @@
--- The rules, case by case.
+-- The rules: start, or not start.
 -- Assumes nothing.
 use mathlib.Core.Path.{_≡_, ap}
 use mathlib.Core.Bool.{Bool, true, false}
