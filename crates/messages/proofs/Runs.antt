@@ -9,8 +9,8 @@ use borrow.Author.Tests.{eqb-false, ltb-true, not-true}
 use lib.Dec.{eqb, ltb, lit<}
 use Rattle.octets.specs.Bytes.{laid}
 use Rattle.octets.proofs.Choice.{pick-elim, both}
-use Rattle.octets.proofs.Laid.{laid-length}
-use Rattle.octets.proofs.Parts.{laid-before, laid-behind, part-same}
+use Rattle.octets.proofs.Laid.{laid-length, laid-before, laid-behind}
+use Rattle.octets.proofs.Parts.{part-same}
 use Rattle.mctp.specs.Packet.{bodyOf}
 use Rattle.slots.specs.declared.state.SlotState.{SlotState}
 use Rattle.slots.specs.declared.state.SlotState.the-variants.{Free, Gathering}
@@ -26,8 +26,6 @@ use Rattle.slots.proofs.States.{slot-other}
 use Rattle.slots.proofs.Changes.{freed-right}
 use Rattle.decision.proofs.Decided.{every-decision}
 use Rattle.receiver.specs.Step.{answerOf, carriedOut, stepOf}
-use Rattle.octets.proofs.Laid.{laid-before, laid-behind}
-use Rattle.octets.proofs.Parts.{part-same}
 use Rattle.receiver.proofs.Laws.{OneSlot, step-right, one-slot}
 use Rattle.messages.specs.Run.{Call, give, free, message, Ran, called, joined, run, intoSlot, untouched}
 

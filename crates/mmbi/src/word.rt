@@ -4,8 +4,8 @@ ghost use Prim.Native.Nat.{_≤_};
 ghost use Rattle.octets.specs.Choice.{pick};
 ghost use Rattle.mmbi.specs.Words.{wordOf, numberOf};
 
-// The pointer is a byte offset; `bit1` is bit 1 of the word (H_UP, B_UP, or reserved), `bit0` bit 0 (H_RST, B_RST, H_RDY
-// or B_RDY).
+// The pointer is a byte offset; `bit1` is bit 1 of the word (H_UP, B_UP, or reserved), `bit0` bit 0 (H_RST, B_RST,
+// H_RDY or B_RDY).
 pub struct Word {
     pub pointer: usize,
     pub bit1: bool,

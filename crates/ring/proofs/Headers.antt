@@ -55,44 +55,42 @@ module _ (n : ℕ) where
   header-fits h = omega arith
 
 -- written bytes read back, whatever stands behind them
-module _ (packet rest : List ℕ) where
-  bytes-split : ringBytes packet ++ rest
-      ≡ wordBytes highFirst (headerFor (length packet))
-      ++ (packet ++ (replicate (paddingFor (length packet)) 0 ++ rest))
+module _ (packet : List ℕ) where
+  abbrev word : List ℕ
+  word = wordBytes highFirst (headerFor (length packet))
+
+  abbrev padding : List ℕ
+  padding = replicate (paddingFor (length packet)) 0
+
+  module _ (rest : List ℕ) where
+    bytes-split : ringBytes packet ++ rest ≡ word ++ (packet ++ (padding ++ rest))
+    unfolding ringBytes
+    bytes-split =
+        append-assoc word (packet ++ padding) rest
+        ∙ ap (λ (s : List ℕ). word ++ s) (append-assoc packet padding rest)
+
+    pub header-back : length packet ≤ 250 → headerAt (ringBytes packet ++ rest) ≡ headerFor (length packet)
+    header-back h =
+        ap headerAt bytes-split
+        ∙ word-back highFirst (headerFor (length packet)) (packet ++ (padding ++ rest)) (header-fits (length packet) h)
+
+    pub packet-back : length packet ≤ 250 → packetOf (ringBytes packet ++ rest) ≡ packet
+    unfolding packetOf
+    packet-back h =
+        ap (λ (n : ℕ). take n (drop 4 (ringBytes packet ++ rest)))
+        (ap sizeOf (header-back h) ∙ header-size (length packet))
+        ∙ ap (λ (s : List ℕ). take (length packet) (drop 4 s)) bytes-split
+        ∙ ap (take (length packet))
+        (drop-at word (packet ++ (padding ++ rest)) 4 (word-length highFirst (headerFor (length packet))))
+        ∙ take-at packet (padding ++ rest) (length packet) refl
+
+  pub bytes-length : length (ringBytes packet) ≡ wholeFor (length packet)
   unfolding ringBytes
-  bytes-split =
-      append-assoc (wordBytes highFirst (headerFor (length packet)))
-      (packet ++ replicate (paddingFor (length packet)) 0) rest
-      ∙ ap (λ (s : List ℕ). wordBytes highFirst (headerFor (length packet)) ++ s)
-      (append-assoc packet (replicate (paddingFor (length packet)) 0) rest)
-
-  pub header-back : length packet ≤ 250 → headerAt (ringBytes packet ++ rest) ≡ headerFor (length packet)
-  header-back h =
-      ap headerAt bytes-split
-      ∙ word-back highFirst (headerFor (length packet)) (packet ++ (replicate (paddingFor (length packet)) 0 ++ rest))
-      (header-fits (length packet) h)
-
-  pub packet-back : length packet ≤ 250 → packetOf (ringBytes packet ++ rest) ≡ packet
-  unfolding packetOf
-  packet-back h =
-      let four : length (wordBytes highFirst (headerFor (length packet))) ≡ 4 =
-      word-length highFirst (headerFor (length packet)) in
-      ap (λ (n : ℕ). take n (drop 4 (ringBytes packet ++ rest)))
-      (ap sizeOf (header-back h) ∙ header-size (length packet))
-      ∙ ap (λ (s : List ℕ). take (length packet) (drop 4 s)) bytes-split
-      ∙ ap (take (length packet)) (drop-at (wordBytes highFirst (headerFor (length packet)))
-      (packet ++ (replicate (paddingFor (length packet)) 0 ++ rest)) 4 four)
-      ∙ take-at packet (replicate (paddingFor (length packet)) 0 ++ rest) (length packet) refl
-
-pub bytes-length : (packet : List ℕ) → length (ringBytes packet) ≡ wholeFor (length packet)
-unfolding ringBytes
-bytes-length packet =
-    let w = wordBytes highFirst (headerFor (length packet)) in
-    let pad = replicate {A = ℕ} (paddingFor (length packet)) 0 in
-    length-append w (packet ++ pad)
-    ∙ omega (
-      arith,
-      word-length highFirst (headerFor (length packet)),
-      length-append packet pad,
-      length-replicate {A = ℕ} (paddingFor (length packet)) 0,
-    )
+  bytes-length =
+      length-append word (packet ++ padding)
+      ∙ omega (
+        arith,
+        word-length highFirst (headerFor (length packet)),
+        length-append packet padding,
+        length-replicate {A = ℕ} (paddingFor (length packet)) 0,
+      )

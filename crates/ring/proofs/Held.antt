@@ -144,16 +144,24 @@ left-over s n m h =
 -- the packet taken out stood first
 module _ (most configured : ℕ) (ring : List ℕ) (read write : ℕ) (packets : List (List ℕ)) (p : List ℕ)
     (h : Holds most configured ring read write (p ∷ packets)) where
-  split : take (filledOf configured read write) (roundFrom read ring) ≡ ringBytes p ++ allBytes packets
+  abbrev f : ℕ
+  f = filledOf configured read write
+
+  abbrev s : List ℕ
+  s = roundFrom read ring
+
+  abbrev behind : List ℕ
+  behind = allBytes packets ++ drop f s
+
+  split : take f s ≡ ringBytes p ++ allBytes packets
   unfolding allBytes
   split = h .bytes
 
-  front : roundFrom read ring ≡ ringBytes p
-      ++ (allBytes packets ++ drop (filledOf configured read write) (roundFrom read ring))
+  front : s ≡ ringBytes p ++ behind
   front =
-      sym (take-append-drop (filledOf configured read write) (roundFrom read ring))
-      ∙ ap (λ (s : List ℕ). s ++ drop (filledOf configured read write) (roundFrom read ring)) split
-      ∙ append-assoc (ringBytes p) (allBytes packets) (drop (filledOf configured read write) (roundFrom read ring))
+      sym (take-append-drop f s)
+      ∙ ap (λ (t : List ℕ). t ++ drop f s) split
+      ∙ append-assoc (ringBytes p) (allBytes packets) (drop f s)
 
   sizes : (sizeRight most (length p) ≡ true) × (allSized most packets ≡ true)
   unfolding allSized
@@ -165,10 +173,10 @@ module _ (most configured : ℕ) (ring : List ℕ) (read write : ℕ) (packets :
   small : length p ≤ 250
   small = omega (arith, short .1, h .set-up .high)
 
-  below : filledOf configured read write < configured
+  below : f < configured
   below = filled-below configured read write (h .from .below) (h .to .below)
 
-  held : wholeFor (length p) ≤ filledOf configured read write
+  held : wholeFor (length p) ≤ f
   held =
       let same = h .set-up .same in
       omega (
@@ -176,22 +184,17 @@ module _ (most configured : ℕ) (ring : List ℕ) (read write : ℕ) (packets :
         bytes-length p,
         length-append (ringBytes p) (allBytes packets),
         ap length split,
-        length-take-le (filledOf configured read write) (roundFrom read ring)
-            (omega (arith, below, round-length read ring)),
+        length-take-le f s (omega (arith, below, round-length read ring)),
       )
 
-  header : headerAt (roundFrom read ring) ≡ headerFor (length p)
-  header =
-      ap headerAt front ∙ header-back p
-      (allBytes packets ++ drop (filledOf configured read write) (roundFrom read ring)) small
+  header : headerAt s ≡ headerFor (length p)
+  header = ap headerAt front ∙ header-back p behind small
 
   -- it reads back
-  pub held-packet : packetOf (roundFrom read ring) ≡ p
-  held-packet =
-      ap packetOf front ∙ packet-back p
-      (allBytes packets ++ drop (filledOf configured read write) (roundFrom read ring)) small
+  pub held-packet : packetOf s ≡ p
+  held-packet = ap packetOf front ∙ packet-back p behind small
 
-  whole : wholeOf (headerAt (roundFrom read ring)) ≡ wholeFor (length p)
+  whole : wholeOf (headerAt s) ≡ wholeFor (length p)
   whole = ap wholeOf header ∙ header-whole (length p)
 
   pub held-good : (output : ℕ) → 4 + most ≤ output
@@ -223,9 +226,7 @@ module _ (most configured : ℕ) (ring : List ℕ) (read write : ℕ) (packets :
   -- and the others are left
   pub holds-taken : Holds most configured ring (nextOf configured read (wholeFor (length p))) write packets
   holds-taken =
-      let f = filledOf configured read write in
       let n = wholeFor (length p) in
-      let s = roundFrom read ring in
       let same = h .set-up .same in
       let l = h .set-up .size in
       let count : n + (f - n) ≡ f = omega (arith, held) in
