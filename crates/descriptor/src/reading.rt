@@ -15,12 +15,12 @@ pub enum Configured {
 pub fn read_descriptor(window: &[u8]) -> Configured
     ensures { λ r. ⌜ r ≡ configuredOf (now (window .entry)) ⌝ }
 {
-    let signed = (64 <= window.len()) & has_signature(window);
+    let signed = (64 <= window.len()) & signature_right(window);
     if !signed {
         return Configured::Refused(Refusal::Signature);
     }
     let c = configuration_in(window);
-    let right = has_version(window) & has_type(window) & is_allowed(window.len(), c);
+    let right = version_right(window) & type_right(window) & is_allowed(window.len(), c);
     if !right {
         return Configured::Refused(Refusal::Descriptor);
     }
@@ -28,7 +28,7 @@ pub fn read_descriptor(window: &[u8]) -> Configured
 }
 
 // The letters #MMBI$.
-fn has_signature(window: &[u8]) -> bool
+fn signature_right(window: &[u8]) -> bool
     ensures { λ r. ⌜ r ≡ signatureRight (now (window .entry)) ⌝ }
 {
     (octets::byte_at(window, 0) == 0x23)
@@ -39,13 +39,13 @@ fn has_signature(window: &[u8]) -> bool
         & (octets::byte_at(window, 5) == 0x24)
 }
 
-fn has_version(window: &[u8]) -> bool
+fn version_right(window: &[u8]) -> bool
     ensures { λ r. ⌜ r ≡ versionRight (now (window .entry)) ⌝ }
 {
     octets::byte_at(window, 6) % 16 == 1
 }
 
-fn has_type(window: &[u8]) -> bool
+fn type_right(window: &[u8]) -> bool
     ensures { λ r. ⌜ r ≡ typeRight (now (window .entry)) ⌝ }
 {
     octets::byte_at(window, 24) % 16 == 1

@@ -60,7 +60,7 @@ pub fn store(window: &mut [u8], c: Configuration, which: Pointer, word: Word) ->
     ensures number { λ r. ⌜ r ≡ storeRefusal (length (now (window .entry))) c which (word .pointer) ⌝ }
     ensures window { λ _. ⌜ now (window .exit) ≡ stored (now (window .entry)) c which word ⌝ }
 {
-    let refusal = refusal_to_store(window.len(), c, which, word.pointer);
+    let refusal = store_refusal(window.len(), c, which, word.pointer);
     if refusal == 0 {
         lay_word(window, c, which, word);
     }
@@ -87,7 +87,7 @@ pub fn store_pointer(window: &mut [u8], c: Configuration, which: Pointer, pointe
 }
 
 // Whether this pointer may be stored: 1, 12, or 0 where it may.
-fn refusal_to_store(window: usize, c: Configuration, which: Pointer, pointer: usize) -> u8
+fn store_refusal(window: usize, c: Configuration, which: Pointer, pointer: usize) -> u8
     ensures { λ r. ⌜ r ≡ storeRefusal window c which pointer ⌝ }
 {
     if !descriptor::is_allowed(window, c) {
@@ -105,7 +105,7 @@ fn refusal_to_store(window: usize, c: Configuration, which: Pointer, pointer: us
 fn lay_word(window: &mut [u8], c: Configuration, which: Pointer, word: Word)
     ensures { λ _. ⌜ now (window .exit) ≡ withWord (now (window .entry)) c which word ⌝ }
 {
-    let n = without_reserved(which, word).number();
+    let n = cleared(which, word).number();
     octets::lay_high_first(window, word_place(c, which), n);
 }
 
@@ -121,11 +121,11 @@ fn word_where(window: &[u8], ok: bool, c: Configuration, which: Pointer) -> Word
         };
     }
     let n = octets::word_high_first(window, word_place(c, which));
-    without_reserved(which, Word::of_number(n))
+    cleared(which, Word::of_number(n))
 }
 
 // Bit 1 of a word that holds a read pointer is reserved: ignored in reading, 0 in writing.
-fn without_reserved(which: Pointer, word: Word) -> Word
+fn cleared(which: Pointer, word: Word) -> Word
     ensures { λ r. ⌜ r ≡ cleared which word ⌝ }
 {
     Word {

@@ -22,17 +22,18 @@ second : (s : List ℕ) {v t a : Bool} {c : Configuration} → v ≡ versionRigh
 second s p q e f = rw (p, q, f, e)
 
 returns : tie.Need-returns
-returns c = sym (refused-at _ 0 (rw (← c .before .has-signature .ensures) (not-true _ (c .if1 .taken))))
+returns c = sym (refused-at _ 0 (rw (← c .before .signature-right .ensures) (not-true _ (c .if1 .taken))))
 
 returns-2 : tie.Need-returns-2
 returns-2 c =
     let read = c .before .before .before .before in
     let kind = c .before .before in
-    let told = second _ (kind .before .has-version .ensures) (kind .has-type .ensures) (read .configuration-in .ensures)
+    let told = second _ (kind .before .version-right .ensures) (kind .type-right .ensures)
+    (read .configuration-in .ensures)
     (c .before .is-allowed .ensures) in
     sym
     (refused-at _ 1 (
-      rw (← read .before .before .has-signature .ensures) (not-false _ (read .before .if1 .left)),
+      rw (← read .before .before .signature-right .ensures) (not-false _ (read .before .if1 .left)),
       told ∙ not-true _ (c .if2 .taken),
     ))
 
@@ -40,12 +41,13 @@ returns-3 : tie.Need-returns-3
 returns-3 c =
     let read = c .before .before .before .before in
     let kind = c .before .before in
-    let told = second _ (kind .before .has-version .ensures) (kind .has-type .ensures) (read .configuration-in .ensures)
+    let told = second _ (kind .before .version-right .ensures) (kind .type-right .ensures)
+    (read .configuration-in .ensures)
     (c .before .is-allowed .ensures) in
     ap Checked (read .configuration-in .ensures)
     ∙ sym
     (none-fails _ (
-      rw (← read .before .before .has-signature .ensures) (not-false _ (read .before .if1 .left)),
+      rw (← read .before .before .signature-right .ensures) (not-false _ (read .before .if1 .left)),
       (told ∙ not-false _ (c .if2 .left), tt),
     ))
 

@@ -12,7 +12,7 @@ returns c =
       l .lay-high-first .ensures,
       l .before .word-place .ensures,
       n .number .ensures,
-      n .before .without-reserved .ensures,
+      n .before .cleared .ensures,
     )
 
 pub lay-word-spec : {M : Type 1} → statement M

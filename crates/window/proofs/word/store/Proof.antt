@@ -10,12 +10,12 @@ returns : tie.Need-returns
 returns c =
     let laid = c .before .before in
     let asked = laid .before .before in
-    let number = asked .before .refusal-to-store .ensures in
+    let number = asked .before .store-refusal .ensures in
     (number, laid .lay-word .ensures ∙ sym (stored-laid _ _ _ _ (sym number ∙ asked .if1 .taken)))
 
 returns-2 : tie.Need-returns-2
 returns-2 c =
-    let number = c .before .refusal-to-store .ensures in
+    let number = c .before .store-refusal .ensures in
     (number, sym (stored-refused _ _ _ _ (λ (e : _ ≡ 0). c .if1 .left (number ∙ e))))
 
 pub store-spec : {M : Type 1} → statement M

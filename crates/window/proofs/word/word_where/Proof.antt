@@ -17,7 +17,7 @@ returns-2 c =
     let asked = c .before .before .before .before in
     rw (
       not-false (asked .before .before .args .ok) (asked .if1 .left),
-      c .without-reserved .ensures,
+      c .cleared .ensures,
       c .before .of-number .ensures,
       c .before .before .word-high-first .ensures,
       c .before .before .before .word-place .ensures,

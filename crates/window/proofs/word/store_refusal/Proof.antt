@@ -1,11 +1,11 @@
--- `window::word::refusal_to_store` meets its contract.
+-- `window::word::store_refusal` meets its contract.
 -- Assumes nothing.
 use mathlib.Core.Path.{sym, _∙_}
 use borrow.Author.Needs.{needs}
 use borrow.Author.Tests.{not-true, not-false}
 use Rattle.window.specs.Words.{storeRefusal}
-use Rattle.window.proofs.word.refusal_to_store.Statement.{statement}
-use Rattle.window.proofs.word.refusal_to_store.Tie as tie
+use Rattle.window.proofs.word.store_refusal.Statement.{statement}
+use Rattle.window.proofs.word.store_refusal.Tie as tie
 
 returns : tie.Need-returns
 unfolding storeRefusal
@@ -35,8 +35,8 @@ returns-3 c =
       sym (c .before .pointer-right .ensures) ∙ c .if2 .left,
     )
 
-pub refusal-to-store-spec : {M : Type 1} → statement M
-refusal-to-store-spec =
+pub store-refusal-spec : {M : Type 1} → statement M
+store-refusal-spec =
     tie.close
     (tie.spec
     (λ c κs. search needs)

@@ -1,9 +1,9 @@
--- `descriptor::reading::has_signature` meets its contract.
+-- `descriptor::reading::signature_right` meets its contract.
 -- Assumes nothing.
 use Rattle.descriptor.specs.Reading.{signatureRight}
 use borrow.Author.Needs.{needs}
-use Rattle.descriptor.proofs.reading.has_signature.Statement.{statement}
-use Rattle.descriptor.proofs.reading.has_signature.Tie as tie
+use Rattle.descriptor.proofs.reading.signature_right.Statement.{statement}
+use Rattle.descriptor.proofs.reading.signature_right.Tie as tie
 
 returns : tie.Need-returns
 unfolding signatureRight
@@ -17,8 +17,8 @@ returns c =
       c .before .before .before .before .before .byte-at .ensures .0,
     )
 
-pub has-signature-spec : {M : Type 1} → statement M
-has-signature-spec =
+pub signature-right-spec : {M : Type 1} → statement M
+signature-right-spec =
     tie.close
     (tie.spec
     (λ c κs. search needs)
