@@ -12,7 +12,7 @@ use Rattle.transcript.specs.declared.state.State.{State}
 use Rattle.transcript.specs.declared.taking.Taken.{Taken}
 use Rattle.transcript.specs.Frame.{Ran}
 use Rattle.transcript.specs.Taking.{run, runOn}
-use Rattle.transcript.proofs.Onward.{Alike, wholeChunk}
+use Rattle.transcript.proofs.Along.{Chunks}
 use Rattle.transcript.proofs.Chunks.{Chunked, chunked}
 use Rattle.bench.specs.declared.sending.Sent.{Sent}
 use Rattle.bench.specs.Sending.{Sends}
@@ -65,9 +65,7 @@ module _ {s₀ : State} {m₀ bytes : List ℕ} {sent₀ : Sent} {s : State} {m 
 
   -- a chunk of what is left
   pub chunk : (out : List ℕ) → 86 ≤ length out → {t : Taken} {after written : List ℕ}
-      → Alike
-      (record { state = t .state; memory = after; read = t .read; written = t .written; output = written })
-      (wholeChunk s m (take (length bytes - read) (drop read bytes)) out)
+      → Chunks s m (take (length bytes - read) (drop read bytes)) out t after written
       → Chunked s m (drop read bytes) out t after written
   chunk out room {t} {after} {written} e =
       chunked s m (drop read bytes) out room

@@ -1,12 +1,12 @@
 -- Turn after turn: the state, the memory and the bytes held are those of all that came so far, however it was cut.
 -- Assumes nothing.
 use mathlib.Core.Path.{_≡_, refl, ap, sym, _∙_}
-use mathlib.Core.Bool.{Bool, true, false, not, _&&_, false≢true}
+use mathlib.Core.Bool.{true, false, not, _&&_, false≢true}
 use mathlib.Core.List.{List, [], _∷_, _++_}
 use Prim.Native.Nat.{ℕ, _+_, _-_, _≤_, _<_}
 use native.Mathlib.Nat.{zero-add}
 use native.Mathlib.Omega.{arith}
-use borrow.Author.Tests.{ltb-false}
+use borrow.Author.Tests.{ltb-false, not-true}
 use lib.Dec.{ltb}
 use lib.ListN.{length, take, length-append}
 use Rattle.octets.proofs.Choice.{both}
@@ -99,10 +99,6 @@ module _ {m₀ : List ℕ} {t : Turned} {left : ℕ} {m input : List ℕ} (a : A
       let more : t .more ≡ true = a .more ∙ rw (read, sent, goes) in
       omega (arith, ltb-false 0 left (rw more at stopped), a .turns)
 
-  not-failed : (b : Bool) → not b ≡ true → b ≡ false
-  not-failed true e = absurd (false≢true e)
-  not-failed false e = refl
-
   -- and otherwise the last line
   pub run-finished : (out : List ℕ) {out' : List ℕ} {later : Sent} → 86 ≤ length out → t .failed ≡ false
       → (t .more && ltb 0 left) ≡ false
@@ -119,5 +115,5 @@ module _ {m₀ : List ℕ} {t : Turned} {left : ℕ} {m input : List ℕ} (a : A
         line = λ (e : false ≡ false). rw (f .0, ← size) (closing-front (t .state) out room);
         over = λ (e : ((true && not (later .failed)) && goesOn (a .reads)) ≡ true).
             let h = both (not (later .failed)) (goesOn (a .reads)) e in
-            used-up read (f .1 .whole (not-failed (later .failed) (h .0)) .0) (h .1) stopped;
+            used-up read (f .1 .whole (not-true (later .failed) (h .0)) .0) (h .1) stopped;
       }

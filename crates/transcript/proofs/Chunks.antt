@@ -14,7 +14,7 @@ use Rattle.transcript.specs.declared.state.State.{State}
 use Rattle.transcript.specs.declared.taking.Taken.{Taken}
 use Rattle.transcript.specs.Taking.{behindText, run, runOn, chunkFrames, chunkRun}
 use Rattle.transcript.proofs.Frames.{frames-more, Took, took}
-use Rattle.transcript.proofs.Onward.{Alike, wholeChunk}
+use Rattle.transcript.proofs.Along.{Chunks}
 use Rattle.transcript.proofs.Runs.{run-append}
 
 module _ (room : ℕ) (s : State) (m input : List ℕ) where
@@ -79,9 +79,7 @@ pub record Chunked (s : State) (m input out : List ℕ) (t : Taken) (after writt
   pub stops : t .read ≡ 0 → recordsOf input ≡ []
 
 pub chunked : {t : Taken} {after written : List ℕ} (s : State) (m input out : List ℕ) → 86 ≤ length out
-    → Alike
-    (record { state = t .state; memory = after; read = t .read; written = t .written; output = written })
-    (wholeChunk s m input out)
+    → Chunks s m input out t after written
     → Chunked s m input out t after written
 unfolding fronted
 chunked {t} {after} {written} s m input out room e =

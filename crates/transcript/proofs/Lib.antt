@@ -1,7 +1,7 @@
 pub mod Frames
 pub mod Places
-pub mod Onward
 pub mod Runs
+pub mod Along
 pub mod Counts
 pub mod Chunks
 pub mod Fronts

@@ -9,16 +9,18 @@ use Rattle.bench.proofs.finish.Tie as tie
 
 part-send-end : tie.Need-part-send-end
 part-send-end c =
-    let call = c .before .before .before .last-line in
-    let f = c .before .before .before .before .before .before in
+    let told = c .before .before .before in
+    let call = told .last-line in
+    let f = told .before .before .before in
     let size = closing-size (f .args .state) (f .args .output .now) (f .pre) in
     let fits = closing-fits (f .args .state) (f .args .output .now) (f .pre) in
     omega (arith, call .ensures .0, call .kept .1 .0)
 
 returns : tie.Need-returns
 returns c =
-    let call = c .before .before .before .before .before .last-line in
-    let f = c .before .before .before .before .before .before .before .before in
+    let told = c .before .before .before .before .before in
+    let call = told .last-line in
+    let f = told .before .before .before in
     let front = closing-front (f .args .state) (f .args .output .now) (f .pre) in (
       call .ensures .1,
       rw (sub-zero (call .result), call .ensures .0, call .ensures .1, front) at (c .send .ensures),

@@ -1,5 +1,5 @@
--- `transcript::taking::chunk` meets its contract. The loop's invariant: what is to come from the places reached is the
--- whole chunk. The measure is what is left of the input. Assumes nothing.
+-- `transcript::taking::chunk` meets its contract. The loop's invariant: the frames taken so far are its first, and made
+-- what is there. The measure is what is left of the input. Assumes nothing.
 use mathlib.Core.Path.{refl, _≡_, sym, _∙_}
 use Prim.Native.Nat.{_≤_, _-_}
 use native.Mathlib.Omega.{arith}
@@ -10,14 +10,15 @@ use Rattle.records.specs.Record.{recordAt}
 use Rattle.records.proofs.Records.{Stands}
 use Rattle.transcript.proofs.Places.{no-whole}
 use Rattle.transcript.proofs.Frames.{frames-none, frames-full}
-use Rattle.transcript.proofs.Onward.{alike, wholeChunk, onward, onward-start, onward-done, stands, gone-on}
+use Rattle.transcript.proofs.Along.{Along, along-start, along-done, stands, along-more}
 use Rattle.transcript.proofs.taking.chunk.Statement.{statement}
 use Rattle.transcript.proofs.taking.chunk.Tie as tie
 
 abbrev Inv-loop : tie.InvT-loop
 Inv-loop memory₀ input output₀ state₀ read₀ written₀ memory output state read written =
-    (written ≤ length output) × (length output ≡ length output₀) × (length memory ≡ length memory₀)
-    × (onward input state memory output read written ≡ wholeChunk state₀ memory₀ input output₀)
+    Along state₀ memory₀ input output₀ state memory output read written
+    × (length output ≡ length output₀)
+    × (length memory ≡ length memory₀)
 
 abbrev μ-loop : tie.MeasureT-loop
 μ-loop memory₀ input output₀ state₀ read₀ written₀ memory output state read written = length input - read
@@ -44,9 +45,7 @@ room c = omega arith
 standing : (c : tie.After-known-told Inv-loop μ-loop)
     → Stands (entry (head c) .args .input .now) (head c .loop .read) (c .before .next .given .0 .0)
     (c .before .next .given .0 .1 .0)
-standing c =
-    let l = head c .loop in
-    stands _ (l .state) (l .memory) (l .output) (l .read) (l .written) _ _ (whole c) (room c)
+standing c = stands (head c .loop .inv .0) (whole c) (room c)
 
 part-frame-line-start : tie.Need-part-frame-line-start Inv-loop μ-loop
 part-frame-line-start c = omega (arith, standing (c .before) .ends)
@@ -64,9 +63,8 @@ loop-again c =
     let framed = c .before .before .before .before .before in
     let call = framed .frame-line in
     let l = head (found framed) .loop in
-    let on = gone-on _ (l .state) (l .memory) (l .output) (l .read) (l .written) _ _ (whole (found framed))
-    (room (found framed)) (call .ensures) in
-    (on .0, on .1 ∙ l .inv .1, call .kept .1 .0 ∙ l .inv .2, on .2 ∙ l .inv .3)
+    let on = along-more (l .inv .0) (whole (found framed)) (room (found framed)) (call .ensures) in
+    (on .1, on .0 ∙ l .inv .1, call .kept .1 .0 ∙ l .inv .2)
 
 same-length : tie.Need-same-length Inv-loop μ-loop
 same-length c = c .before .loop .inv .2
@@ -75,9 +73,7 @@ same-length-2 : tie.Need-same-length-2 Inv-loop μ-loop
 same-length-2 c = c .before .loop .inv .1
 
 returns : tie.Need-returns Inv-loop μ-loop
-returns c =
-    let l = c .before .loop in
-    alike (sym (onward-done _ _ _ _ _ _ (frames-full _ _ _ _ (omega arith))) ∙ l .inv .3)
+returns c = along-done (c .before .loop .inv .0) (frames-full _ _ _ _ (omega arith))
 
 same-length-3 : tie.Need-same-length-3 Inv-loop μ-loop
 same-length-3 c = c .before .before .before .loop .inv .2
@@ -89,11 +85,9 @@ returns-2 : tie.Need-returns-2 Inv-loop μ-loop
 returns-2 c =
     let h = c .before .before .before in
     let l = h .loop in
-    let input = entry h .args .input .now in
-    let none = no-whole input (l .read) _ (c .match .keys2) (sym (c .before .record-at .ensures)) in
-    alike
-    (sym (onward-done input (l .state) (l .memory) (l .output) (l .read) (l .written)
-    (rw none (frames-none (l .state) (l .memory) _))) ∙ l .inv .3)
+    let none = no-whole (entry h .args .input .now) (l .read) _ (c .match .keys2)
+    (sym (c .before .record-at .ensures)) in
+    along-done (l .inv .0) (rw none (frames-none (l .state) (l .memory) _))
 
 pub chunk-spec : {M : Type 1} → statement M
 chunk-spec =
@@ -101,7 +95,7 @@ chunk-spec =
     (tie.spec
     Inv-loop
     μ-loop
-    (λ c. (omega arith, refl, refl, onward-start _ _ _ _))
+    (λ c. (along-start _ _ _ _, refl, refl))
     (λ c. omega arith)
     (λ c κs. tt)
     (λ c. search needs)
