@@ -35,8 +35,8 @@ literal-arrival =
     ap (λ (c : Brought). arrivedOf 64 card empty c .told) literal-brought ∙ ap (given (Source 17)) literal-done
 
 pub numbers : Numbers
-unfolding polyStep eightSteps byteStep pecFrom pecOf filledOf roomOf stateOf run stepOf decided fromPacket fromSource
-    setupRefusal packetRefusal sourceRefusal ruled onStart onFollow gathered after slotOf lowestFree firstOf headerOf
+unfolding polyStep eightSteps byteStep pecFrom pecOf filledOf roomOf stateOf run stepOf decided 
+    ruled onStart onFollow gathered after slotOf lowestFree firstOf headerOf
     keyOf sameKey rightState rightSlot rightNumbers multiple clash laid
 numbers =
     record {
