@@ -47,19 +47,7 @@ module _ (s : List ℕ) where
   unfolding configuredOf
   none-fails h = none-failing (readOrder s) (Checked (configurationIn s)) h
 
-  -- all the facts of a good one, from the tests and back
-  held-good : Hold (readOrder s) → Good s
-  held-good (front, (rest, end)) =
-      let f = each (leb 64 (length s)) (signatureRight s ∷ []) front in
-      let r = each (versionRight s) (typeRight s ∷ allowed (length s) (configurationIn s) ∷ []) rest in
-      record {
-        long = leb-true _ _ (f 0);
-        signed = f 1;
-        version = eqb-true _ _ (r 0);
-        kind = eqb-true _ _ (r 1);
-        places = allowed-facts (length s) (configurationIn s) (r 2);
-      }
-
+  -- "Accepted exactly if": what has every fact is accepted, and what is accepted has them (`good`)
   pub accepted : Good s → configuredOf s ≡ Checked (configurationIn s)
   unfolding configuredOf
   accepted g =
@@ -77,7 +65,16 @@ module _ (s : List ℕ) where
     held = all-hold isChecked (readOrder s) (Checked (configurationIn s)) refl (ap isChecked e)
 
     pub good : Good s
-    good = held-good held
+    good =
+        let front = each (leb 64 (length s)) (signatureRight s ∷ []) (held .0) in
+        let rest = each (versionRight s) (typeRight s ∷ allowed (length s) (configurationIn s) ∷ []) (held .1 .0) in
+        record {
+          long = leb-true _ _ (front 0);
+          signed = front 1;
+          version = eqb-true _ _ (rest 0);
+          kind = eqb-true _ _ (rest 1);
+          places = allowed-facts (length s) (configurationIn s) (rest 2);
+        }
 
     -- a configuration that reading has found is allowed in that window
     pub found-allowed : allowed (length s) c ≡ true

@@ -47,13 +47,13 @@ configurationIn s =
       rws = baseAt s 36;
     }
 
--- "Otherwise 9 for the signature or a window too short to hold the descriptor, else 10."
+-- "Otherwise 9 for the signature or a window too short to hold the descriptor, else 10.": the two by name
 abbrev pub readOrder : List ℕ → List (Check Configured)
 readOrder s =
     Refused Signature unless (leb 64 (length s) && signatureRight s)
     ∷ Refused Descriptor unless (versionRight s && typeRight s && allowed (length s) (configurationIn s))
     ∷ []
 
--- what reading gives
+-- what reading gives: the first refusal, or the configuration
 unfoldable pub configuredOf : List ℕ → Configured
 configuredOf s = firstFailing (readOrder s) (Checked (configurationIn s))
