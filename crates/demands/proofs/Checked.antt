@@ -35,7 +35,7 @@ literal-arrival =
     ap (λ (c : Brought). arrivedOf 64 card empty c .told) literal-brought ∙ ap (given (Source 17)) literal-done
 
 pub numbers : Numbers
-unfolding polyStep eightSteps byteStep pecFrom pecOf filledOf roomOf stateOf run stepOf decided 
+unfolding polyStep eightSteps byteStep pecFrom pecOf filledOf roomOf stateOf run stepOf decided
     ruled onStart onFollow gathered after slotOf lowestFree firstOf headerOf
     keyOf sameKey rightState rightSlot rightNumbers multiple clash laid
 numbers =

@@ -3,7 +3,7 @@
 use mathlib.Core.List.{List}
 use Prim.Native.Nat.{ℕ}
 use Rattle.rack.specs.Arrivals.{smbusBrings}
-use Rattle.rack.specs.Answers.{AfterArrival as Arrived, arrivedOf}
+use Rattle.rack.specs.Answers.{AfterArrival, arrivedOf}
 use Rattle.records.specs.Line.{lineBytes}
 use Rattle.transcript.specs.declared.state.State.{State}
 use Rattle.transcript.specs.State.{ownAddress, oneMore, withPacket}
@@ -16,17 +16,17 @@ pub record Ran : Type 0 where
   pub text : List ℕ
 
 -- each arrival is counted, and its line has its number
-abbrev pub counted : State → Arrived → Ran
-counted s a =
+abbrev pub counted : State → AfterArrival → Ran
+counted s left =
     record {
       state =
           record {
-            receiver = a .receiver;
+            receiver = left .receiver;
             arrivals = oneMore (s .arrivals);
-            packets = withPacket (a .told) (s .packets);
+            packets = withPacket (left .told) (s .packets);
           };
-      memory = a .memory;
-      text = lineBytes (oneMore (s .arrivals)) (lineOf (a .told));
+      memory = left .memory;
+      text = lineBytes (oneMore (s .arrivals)) (lineOf (left .told));
     }
 
 -- one frame's arrival at our own address
