@@ -10,8 +10,9 @@ use native.Mathlib.Nat.{mod-self, add-mod-right}
 use native.Mathlib.Decide.{decLt}
 use native.Mathlib.Omega.{arith}
 use borrow.Author.Tests.{ltb-true, ltb-false, leb-true, eqb-true}
-use lib.Dec.{eqb, ltb, lit≤}
+use lib.Dec.{eqb, ltb}
 use lib.ListN.{length, length-drop, List·getD-eq-default}
+use Rattle.octets.specs.Choice.{within}
 use Rattle.octets.proofs.Choice.{pick-elim, within-bounds}
 use Rattle.octets.proofs.Checks.{every-answer}
 use Rattle.mctp.specs.declared.packet.Key.{Key}
@@ -51,8 +52,8 @@ pub record Fits (most : ℕ) (r : Receiver) (p : List ℕ) (i at : ℕ) (then : 
 -- refusal with a number up to 19, every release with 20 to 22 of the slot that has the packet's key, every body put
 -- where it fits.
 pub record Cases (most : ℕ) (r : Receiver) (size : ℕ) (p : List ℕ) (P : Decision → Type 0) : Type 0 where
-  pub refuses : (n : ℕ) → 1 ≤ n → n ≤ 19 → P (refuse n)
-  pub releases : rightState most r ≡ true → (i n : ℕ) → i < 4 → 20 ≤ n → n ≤ 22
+  pub refuses : (n : ℕ) → within 1 19 n ≡ true → P (refuse n)
+  pub releases : rightState most r ≡ true → (i n : ℕ) → i < 4 → within 20 22 n ≡ true
       → hasKey (keyOf p) (slotAt (r .slots) i) ≡ true
       → P (release i n)
   pub puts : rightState most r ≡ true → size ≡ 4096 → (i at : ℕ) (again : Bool) (then : SlotState)
@@ -177,7 +178,7 @@ module _ (most : ℕ) (r : Receiver) (size : ℕ) (p : List ℕ) (P : Decision �
       let low = ltb-true lowest 4 f in
       cases .puts right whole _ _ _ _ (start-fits lowest low (rw (lowest-is-free (r .slots) low))
       (λ j hj d. slot-of-none (r .slots) (head .key) (ltb-false own 4 e) j hj)))
-      (λ f. cases .refuses 18 (lit≤ tt) (lit≤ tt)))
+      (λ f. cases .refuses 18 refl))
 
   module _ (k : Key) (q u held : ℕ) (e : slot own ≡ Gathering k q u held) where
     low : own < 4
@@ -205,18 +206,18 @@ module _ (most : ℕ) (r : Receiver) (size : ℕ) (p : List ℕ) (P : Decision �
         })
         (λ j hj d. key-alone most r R (head .key) own j low hj d has)
 
-    freed : (n : ℕ) → 20 ≤ n → n ≤ 22 → P (release own n)
-    freed n high top = cases .releases right own n low high top (has-packet-key own has)
+    freed : (n : ℕ) → within 20 22 n ≡ true → P (release own n)
+    freed n e = cases .releases right own n low e (has-packet-key own has)
 
     by-gathered : P (gathered own q u held head n)
     unfolding gathered
     by-gathered =
         every-answer P (gatherOrder own q u held head n) _
-        (freed 20 (lit≤ tt) (lit≤ tt), (freed 21 (lit≤ tt) (lit≤ tt), (freed 22 (lit≤ tt) (lit≤ tt), tt)))
+        (freed 20 refl, (freed 21 refl, (freed 22 refl, tt)))
         (λ h. cases .puts right whole _ _ _ _ (append-fits (h .1 .0) (leb-true (held + n) 1024 (h .1 .1 .0))))
 
   by-state : (s : SlotState) → slot own ≡ s → P (follow own s head n)
-  by-state Free e = cases .refuses 19 (lit≤ tt) (lit≤ tt)
+  by-state Free e = cases .refuses 19 refl
   by-state (Gathering k q u held) e = by-gathered k q u held e
 
   by-rules : P (ruled (r .slots) head n)
@@ -229,23 +230,15 @@ pub every-decision : (most : ℕ) (r : Receiver) (size : ℕ) (p : List ℕ) (P 
 unfolding decided
 every-decision most r size p P cases =
     let refuses = cases .refuses in
-    every-answer P (checkOrder most r size p) _ (
-      refuses 1 (lit≤ tt) (lit≤ tt),
-      (
-        refuses 2 (lit≤ tt) (lit≤ tt),
-        (
-          refuses 3 (lit≤ tt) (lit≤ tt),
-          (refuses 15 (lit≤ tt) (lit≤ tt), (refuses 16 (lit≤ tt) (lit≤ tt), (refuses 17 (lit≤ tt) (lit≤ tt), tt))),
-        ),
-      ),
-    )
+    every-answer P (checkOrder most r size p) _
+    (refuses 1 refl, (refuses 2 refl, (refuses 3 refl, (refuses 15 refl, (refuses 16 refl, (refuses 17 refl, tt))))))
     (λ h. by-rules most r size p P cases (h .0) (eqb-true size 4096 (h .1 .0)) (h .1 .1 .0) (h .1 .1 .1 .1 .0))
 
 -- What it takes to carry a decision out: a slot that there is, and room in it for the body. "20, 21, 22: number; that
 -- slot becomes free": the others free none. A body lies in its slot's own 1,024 bytes.
 abbrev pub Possible : List ℕ → Decision → Type 0
 Possible p (refuse n) = (1 ≤ n) × (n ≤ 19)
-Possible p (release slot n) = (slot < 4) × (20 ≤ n) × (n ≤ 22)
+Possible p (release slot n) = (slot < 4) × ((20 ≤ n) × (n ≤ 22))
 Possible p (put slot at again then) = (slot < 4) × (4 < length p) × (at + length (bodyOf p) ≤ 1024)
 
 -- every decision can be carried out
@@ -253,7 +246,7 @@ pub decision-possible : (most : ℕ) (r : Receiver) (size : ℕ) (p : List ℕ) 
 decision-possible most r size p =
     every-decision most r size p (Possible p)
     (record {
-      refuses = λ n low high. (low, high);
-      releases = λ e i n h low high k. (h, low, high);
+      refuses = λ n b. within-bounds 1 19 n b;
+      releases = λ e i n h b k. (h, within-bounds 20 22 n b);
       puts = λ e s i at again then f. (f .slot, omega (arith, f .size), f .place);
     })

@@ -29,12 +29,12 @@ planned (Release slot refusal) = release slot (numberOf refusal)
 planned (Put slot at again then) = put slot at again then
 
 -- "With end set .. the slot is free." Without end it gathers on, with this packet's sequence as the last.
-unfoldable pub after : Header → ℕ → ℕ → SlotState
+unfoldable pub after : Header → (unit held : ℕ) → SlotState
 after h unit held = pick (h .end) Free (Gathering (h .key) (h .sequence) unit held)
 
 -- "Start: takes its key's slot, dropping what was there (the answer says "again"), else the lowest free slot, else 18.
 -- Its body goes to the slot's front and its size is the unit."
-unfoldable pub onStart : List Slot → Header → ℕ → Decision
+unfoldable pub onStart : List Slot → Header → (n : ℕ) → Decision
 onStart slots h n =
     pick (ltb (slotOf slots (h .key)) 4) (put (slotOf slots (h .key)) 0 true (after h n n))
     (pick (ltb (lowestFree slots 0 4) 4) (put (lowestFree slots 0 4) 0 false (after h n n))
@@ -59,13 +59,13 @@ gathered slot last unit held h n =
     firstFailing (gatherOrder slot last unit held h n) (put slot held false (after h unit (held + n)))
 
 -- "19 if no slot has the key"
-abbrev pub follow : ℕ → SlotState → Header → ℕ → Decision
+abbrev pub follow : (slot : ℕ) → SlotState → Header → (n : ℕ) → Decision
 follow slot Free h n = refuse 19
 follow slot (Gathering key last unit held) h n = gathered slot last unit held h n
 
 -- "Not start": where no slot has the key, `slotOf` is past the last slot, which reads as free
-unfoldable pub onFollow : List Slot → Header → ℕ → Decision
+unfoldable pub onFollow : List Slot → Header → (n : ℕ) → Decision
 onFollow slots h n = follow (slotOf slots (h .key)) (slotAt slots (slotOf slots (h .key))) h n
 
-unfoldable pub ruled : List Slot → Header → ℕ → Decision
+unfoldable pub ruled : List Slot → Header → (n : ℕ) → Decision
 ruled slots h n = pick (h .start) (onStart slots h n) (onFollow slots h n)

@@ -182,8 +182,8 @@ module _ (most : ℕ) (r : Receiver) (m : List ℕ) (k : Key) (i last unit : ℕ
       (λ d. (slotAt (carriedOut r m p d .receiver .slots) i ≡ slotAt (r .slots) i)
       × (message (carriedOut r m p d .memory) i (length sofar) ≡ message m i (length sofar)))
       (record {
-        refuses = λ n low high. (refl, refl);
-        releases = λ e j n h low high c. (slot-other (r .slots) j i Free (apart j c), refl);
+        refuses = λ n b. (refl, refl);
+        releases = λ e j n h b c. (slot-other (r .slots) j i Free (apart j c), refl);
         puts = λ e s j at again then f. (
           slot-other (r .slots) j i then (taken j (f .taken)),
           slot-apart most m i j at (bodyOf p) (length sofar) (λ x. taken j (f .taken) (sym x)) (f .place) held-fits,

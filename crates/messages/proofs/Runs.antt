@@ -146,8 +146,8 @@ module _ (most : ℕ) where
       every-decision most r (length m) p
       (λ d. intoSlot i (carriedOut r m p d .said) ≡ false → message (carriedOut r m p d .memory) i n ≡ message m i n)
       (record {
-        refuses = λ k low up s. refl;
-        releases = λ x j k h low up c s. refl;
+        refuses = λ k b s. refl;
+        releases = λ x j k h b c s. refl;
         puts = λ x y j at again then f s. slot-apart m i j at (bodyOf p) n
             (eqb-false j i (sym (into-put then i j (at + length (bodyOf p)) again) ∙ s)) (f .place) high;
       })

@@ -8,6 +8,7 @@ use native.Mathlib.Omega.{arith}
 use contract.Lifetimes.{Lfts}
 use lib.Dec.{lit<}
 use lib.ListN.{length, getD}
+use Rattle.octets.proofs.Choice.{within-bounds}
 use Rattle.octets.proofs.Laid.{laid-length, laid-before, laid-behind}
 use Rattle.mctp.specs.Packet.{bodyOf}
 use Rattle.mctp.specs.Key.{keyOf}
@@ -46,8 +47,8 @@ unfolding stepOf
 step-right most r m p e =
     every-decision most r (length m) p (λ d. rightState most (carriedOut r m p d .receiver) ≡ true)
     (record {
-      refuses = λ n low high. e;
-      releases = λ e i n h low high k. free-right most r i h e;
+      refuses = λ n b. e;
+      releases = λ e i n h b k. free-right most r i h e;
       puts = λ e s i at again then f. right-holds most (withState r i then)
           (with-right most r (right-of most r e) i then (f .slot) (f .right) (f .alone));
     })
@@ -71,16 +72,16 @@ refused-unchanged most r m p n e n20 n21 n22 =
     (λ d. carriedOut r m p d .said ≡ refused n
     → Unchanged r m (carriedOut r m p d .receiver) (carriedOut r m p d .memory))
     (record {
-      refuses = λ k low high s. record { setup = refl; slots = refl; memory = refl };
-      releases = λ x i k h low high c s.
+      refuses = λ k b s. record { setup = refl; slots = refl; memory = refl };
+      releases = λ x i k h b c s.
           let same : k ≡ n = cc in
-          absurd (none k same low high);
+          absurd (none k same (within-bounds 20 22 k b));
       puts = λ x y i at again then f s. absurd (put-answers then i (at + length (bodyOf p)) again n s);
     })
     e
   where
-    none : (k : ℕ) → k ≡ n → 20 ≤ k → k ≤ 22 → ⊥
-    none k same low high = omega arith
+    none : (k : ℕ) → k ≡ n → (20 ≤ k) × (k ≤ 22) → ⊥
+    none k same b = omega arith
 
 -- refused with 20, 21, 22: exactly the slot that has the packet's key becomes free, memory unchanged
 pub refused-freed : (most : ℕ) (r : Receiver) (m p : List ℕ) (n : ℕ) → stepOf most r m p .said ≡ refused n → 20 ≤ n
@@ -91,10 +92,10 @@ refused-freed most r m p n e twenty =
     (λ d. carriedOut r m p d .said ≡ refused n
     → SlotFreed (keyOf p) r m (carriedOut r m p d .receiver) (carriedOut r m p d .memory))
     (record {
-      refuses = λ k low high s.
+      refuses = λ k b s.
           let same : k ≡ n = cc in
-          absurd (none k same high);
-      releases = λ x i k h low high c s. record {
+          absurd (none k same (within-bounds 1 19 k b .1));
+      releases = λ x i k h b c s. record {
         slot = i;
         one-of-four = h;
         has-the-key = c;
@@ -126,7 +127,7 @@ unfolding stepOf
 one-slot most r m p =
     every-decision most r (length m) p (λ d. OneSlot r m (carriedOut r m p d .receiver) (carriedOut r m p d .memory))
     (record {
-      refuses = λ n low high. record {
+      refuses = λ n b. record {
         slot = 0;
         one-of-four = lit< tt;
         setup = refl;
@@ -135,14 +136,14 @@ one-slot most r m p =
         bytes-before = λ k h. refl;
         bytes-behind = λ k h. refl;
       };
-      releases = λ x i n h low high c. record {
+      releases = λ x i n h b c. record {
         slot = i;
         one-of-four = h;
         setup = refl;
         others = λ j d. slot-other (r .slots) i j Free d;
         size = refl;
-        bytes-before = λ k b. refl;
-        bytes-behind = λ k b. refl;
+        bytes-before = λ k g. refl;
+        bytes-behind = λ k g. refl;
       };
       puts = λ x y i at again then f. record {
         slot = i;

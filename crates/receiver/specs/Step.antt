@@ -37,19 +37,19 @@ pub record Left : Type 0 where
   pub receiver : Receiver
   pub memory : List ℕ
 
-abbrev pub left : Given → List ℕ → Left
+abbrev pub left : Given → (memory : List ℕ) → Left
 left g m = record { said = says (g .answer); receiver = g .receiver; memory = m }
 
 -- "With end set the answer is done, with slot and length, and the slot is free... Without end: held, with slot and
 -- bytes held."
-abbrev pub answerOf : SlotState → ℕ → ℕ → Bool → Said
+abbrev pub answerOf : SlotState → (slot bytes : ℕ) → (again : Bool) → Said
 answerOf Free slot bytes again = done slot bytes again
 answerOf (Gathering key sequence unit now) slot bytes again = held slot bytes again
 
 -- a decision carried out. "1, 2 .. 15, 16, 17, 18, 19: number; all unchanged"; "20, 21, 22: number; that slot becomes
 -- free, memory unchanged". "message memory of exactly 4,096 lent bytes, 1,024 for each slot": slot i has those from
 -- 1,024 × i on.
-abbrev pub carriedOut : Receiver → List ℕ → List ℕ → Decision → Left
+abbrev pub carriedOut : Receiver → (memory packet : List ℕ) → Decision → Left
 carriedOut r m p (refuse n) = record { said = refused n; receiver = r; memory = m }
 carriedOut r m p (release slot n) = record { said = refused n; receiver = withState r slot Free; memory = m }
 carriedOut r m p (put slot at again then) =
@@ -60,5 +60,5 @@ carriedOut r m p (put slot at again then) =
     }
 
 -- one packet given to the message rules
-unfoldable pub stepOf : ℕ → Receiver → List ℕ → List ℕ → Left
+unfoldable pub stepOf : (most : ℕ) → Receiver → (memory packet : List ℕ) → Left
 stepOf most r m p = carriedOut r m p (decided most r (length m) p)

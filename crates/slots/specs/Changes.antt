@@ -22,7 +22,7 @@ abbrev pub fresh : Setup → Receiver
 fresh s = record { setup = s; slots = freeSlot ∷ freeSlot ∷ freeSlot ∷ freeSlot ∷ [] }
 
 -- the receiver with slot i in another state; past the last slot there is nothing to change
-abbrev pub withState : Receiver → ℕ → SlotState → Receiver
+abbrev pub withState : Receiver → (slot : ℕ) → SlotState → Receiver
 withState r i s = record { setup = r .setup; slots = set (r .slots) i (record { state = s }) }
 
 -- "A set-up or state that breaks this is refused with 1."

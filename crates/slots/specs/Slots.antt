@@ -13,7 +13,7 @@ use Rattle.slots.specs.declared.state.SlotState.{SlotState}
 use Rattle.slots.specs.declared.state.SlotState.the-variants.{Free, Gathering}
 
 -- the state of slot i; past the last slot there is nothing, and it reads as free
-abbrev pub slotAt : List Slot → ℕ → SlotState
+abbrev pub slotAt : List Slot → (i : ℕ) → SlotState
 slotAt slots i = getD slots i (record { state = Free }) .state
 
 abbrev pub isFree : SlotState → Bool
@@ -26,7 +26,7 @@ hasKey k Free = false
 hasKey k (Gathering key sequence unit held) = sameKey key k
 
 -- the first of n slots from slot i on that passes a test, else the slot after them
-unfoldable pub firstOf : (SlotState → Bool) → List Slot → ℕ → ℕ → ℕ
+unfoldable pub firstOf : (SlotState → Bool) → List Slot → (i n : ℕ) → ℕ
 firstOf f slots i zero = i
 firstOf f slots i (suc n) = pick (f (slotAt slots i)) i (firstOf f slots (suc i) n)
 
@@ -35,9 +35,9 @@ unfoldable pub slotOf : List Slot → Key → ℕ
 slotOf slots k = firstOf (hasKey k) slots 0 4
 
 -- "the lowest free slot" of n slots from slot i on
-unfoldable pub lowestFree : List Slot → ℕ → ℕ → ℕ
+unfoldable pub lowestFree : List Slot → (i n : ℕ) → ℕ
 lowestFree slots i n = firstOf isFree slots i n
 
 -- the first of four tests that holds, 4 where none does
-abbrev pub firstTrue : Bool → Bool → Bool → Bool → ℕ
+abbrev pub firstTrue : (a b c d : Bool) → ℕ
 firstTrue a b c d = pick a 0 (pick b 1 (pick c 2 (pick d 3 4)))
