@@ -27,7 +27,7 @@ pub checked-made : (rest : List ℕ) → Checked (rest ++ (pecOf rest ∷ []))
 checked-made rest = record { rest = rest; ends = refl }
 
 -- A list of one element or more is its front and its last.
-front-last : (s : List ℕ) → 0 < length s → s ≡ take (length s - 1) s ++ (getD s (length s - 1) 0 ∷ [])
+pub front-last : (s : List ℕ) → 0 < length s → s ≡ take (length s - 1) s ++ (getD s (length s - 1) 0 ∷ [])
 front-last s h = sym (take-all (suc (length s - 1)) s (omega arith)) ∙ take-suc s (length s - 1) 0 (omega arith)
 
 -- As a reader tests it: the last byte against the PEC of the front.

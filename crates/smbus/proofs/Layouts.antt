@@ -5,11 +5,12 @@ use mathlib.Core.List.{List, [], _∷_, _++_}
 use Prim.Native.Nat.{ℕ, zero, suc, _+_, _-_, _*_, _/_, _≤_, _<_}
 use native.Mathlib.Omega.{arith}
 use lib.ListN.{length, getD, take, length-take, length-drop}
-use lib.Seq.{take-add, take-suc, take-all}
+use lib.Seq.{take-add}
 use Rattle.octets.specs.Bytes.{Below}
 use Rattle.octets.proofs.Below.{below-nil, below-cons, below-append}
 use Rattle.octets.proofs.Words.{four}
 use Rattle.pec.specs.Remainder.{pecOf}
+use Rattle.pec.proofs.Checks.{front-last}
 use Rattle.pec.proofs.Fold.{pec-byte}
 use Rattle.smbus.specs.Layout.{headOf, coveredOf, frameOf}
 use Rattle.smbus.specs.Reading.{endOf, beforeEnd, partOf}
@@ -48,33 +49,32 @@ module _ (most : ℕ) (frame : List ℕ) (own : ℕ) (g : Good most frame own) w
 
   pub part-length : 5 + length (partOf frame) ≡ length frame
   unfolding partOf
-  part-length = simp (length-take, length-drop) (omega (arith, g .short))
+  part-length = simp (length-take, length-drop) (omega arith)
 
   -- a packet of a packet's size,
   pub part-short : 5 ≤ length (partOf frame)
-  part-short = omega (arith, part-length, g .short)
+  part-short = omega (arith, part-length)
 
   pub part-long : length (partOf frame) ≤ 4 + most
-  part-long = omega (arith, part-length, g .long)
+  part-long = omega (arith, part-length)
 
   before-end : beforeEnd frame ≡ coveredOf own sender (partOf frame)
   unfolding beforeEnd partOf coveredOf headOf
   before-end =
-      let n : length frame - 1 ≡ 4 + (length frame - 5) = omega (arith, g .short) in
-      let destination : getD frame 0 0 ≡ own * 2 = omega (arith, g .bit, g .ours) in
+      let n : length frame - 1 ≡ 4 + (length frame - 5) = omega arith in
+      let destination : getD frame 0 0 ≡ own * 2 = omega arith in
       let command : getD frame 1 0 ≡ 15 = g .command in
-      let count : getD frame 2 0 ≡ 1 + length (partOf frame) = omega (arith, g .count, part-length) in
-      let source : getD frame 3 0 ≡ sender * 2 + 1 = omega (arith, g .sender) in
+      let count : getD frame 2 0 ≡ 1 + length (partOf frame) = omega (arith, part-length) in
+      let source : getD frame 3 0 ≡ sender * 2 + 1 = omega arith in
       ap (λ (k : ℕ). take k frame) n
       ∙ take-add 4 (length frame - 5) frame
       ∙ ap (λ (l : List ℕ). l ++ partOf frame)
-      (four frame (omega (arith, g .short)) ∙ (λ i. destination i ∷ command i ∷ count i ∷ source i ∷ []))
+      (four frame (omega arith) ∙ (λ i. destination i ∷ command i ∷ count i ∷ source i ∷ []))
 
   -- and it is the frame of that packet, to `own` from its sender
   pub good-frame : frame ≡ frameOf own sender (partOf frame)
   unfolding frameOf endOf beforeEnd
   good-frame =
-      sym (take-all (suc (length frame - 1)) frame (omega arith))
-      ∙ take-suc frame (length frame - 1) 0 (omega (arith, g .short))
+      front-last frame (omega arith)
       ∙ ap (λ (b : ℕ). beforeEnd frame ++ (b ∷ [])) (g .checked)
       ∙ ap (λ (l : List ℕ). l ++ (pecOf l ∷ [])) before-end

@@ -6,6 +6,7 @@ use Prim.Native.Nat.{ℕ, _+_, _/_, _%_, _≤_}
 use native.Mathlib.Omega.{arith}
 use lib.Dec.{eqb}
 use lib.ListN.{length, getD}
+use Rattle.octets.specs.Checks.{Check}
 use Rattle.octets.proofs.Checks.{FailsAt, answerAt, first-failing, none-failing, all-hold, tests}
 use Rattle.pec.specs.Remainder.{pecOf}
 use Rattle.smbus.specs.Reading.{endOf, beforeEnd, readOrder, refusalOf}
@@ -25,17 +26,19 @@ pub record Good (most : ℕ) (frame : List ℕ) (own : ℕ) : Type 0 where
   pub checked : endOf frame ≡ pecOf (beforeEnd frame)
 
 module _ (most : ℕ) (frame : List ℕ) (own : ℕ) where
-  pub refused-at : (i : ℕ) → FailsAt (readOrder most frame own) i
-      → refusalOf most frame own ≡ answerAt (readOrder most frame own) 0 i
+  abbrev order : List (Check ℕ)
+  order = readOrder most frame own
+
+  pub refused-at : (i : ℕ) → FailsAt order i → refusalOf most frame own ≡ answerAt order 0 i
   unfolding refusalOf
-  refused-at = first-failing (readOrder most frame own) 0
+  refused-at = first-failing order 0
 
   pub good-number : Good most frame own → refusalOf most frame own ≡ 0
   unfolding refusalOf
-  good-number g = none-failing (readOrder most frame own) 0 (omega (arith, tests))
+  good-number g = none-failing order 0 (omega (arith, tests))
 
   pub good : refusalOf most frame own ≡ 0 → Good most frame own
   unfolding refusalOf
   good e =
-      let held = all-hold (λ n. eqb n 0) (readOrder most frame own) 0 refl (ap (λ (n : ℕ). eqb n 0) e) in
+      let held = all-hold (λ n. eqb n 0) order 0 refl (ap (λ (n : ℕ). eqb n 0) e) in
       omega (arith, tests)
