@@ -10,7 +10,7 @@ use native.Mathlib.Nat.{mod-self, add-mod-right}
 use native.Mathlib.Decide.{decLt}
 use native.Mathlib.Omega.{arith}
 use borrow.Author.Tests.{ltb-true, ltb-false, leb-true, eqb-true}
-use lib.Dec.{eqb, ltb}
+use lib.Dec.{ltb}
 use lib.ListN.{length, length-drop, List·getD-eq-default}
 use Rattle.octets.specs.Choice.{within}
 use Rattle.octets.proofs.Choice.{pick-elim, within-bounds}

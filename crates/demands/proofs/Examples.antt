@@ -171,7 +171,8 @@ writable = (refl, refl)
 abbrev ten : List ℕ
 ten = replicate 10 238
 
-pub written-frame-is-the-layout : frames.writtenOf 64 ten literalPacket 32 17 ≡ fronted ten (frameOf 32 17 literalPacket)
+pub written-frame-is-the-layout : frames.writtenOf 64 ten literalPacket 32 17
+    ≡ fronted ten (frameOf 32 17 literalPacket)
 written-frame-is-the-layout = demands.written-frame-is-the-layout ten literalPacket 32 17 (writable .0)
 
 pub frame-reads-back : brings 64

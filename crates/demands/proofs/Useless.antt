@@ -53,7 +53,8 @@ module _ (build : Receiver → List ℕ → Arrival → AfterArrival)
   refuser a p beside e refuses =
       let no = refuses card empty in
       not-both beside (rules.stepOf 64 card empty p .said) (no .0)
-      (sym (ap (λ (l : AfterArrival). l .told) (meets card empty a) ∙ ap (λ (c : Brought). arrivedOf 64 card empty c .told) e)
+      (sym (ap (λ (l : AfterArrival). l .told) (meets card empty a)
+      ∙ ap (λ (c : Brought). arrivedOf 64 card empty c .told) e)
       ∙ no .1)
 
   abbrev Refuses : Arrival → Type 0

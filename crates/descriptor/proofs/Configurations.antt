@@ -7,8 +7,7 @@ use Prim.Native.Nat.{ℕ, zero, suc, _+_, _%_, _≤_}
 use borrow.Author.Tests.{leb-true, le-leb, eqb-true}
 use lib.Dec.{eqb}
 use lib.ListN.{getD}
-use Rattle.octets.specs.Choice.{within}
-use Rattle.octets.proofs.Choice.{both, within-bounds}
+use Rattle.octets.proofs.Choice.{both}
 use Rattle.mmbi.specs.Pointers.{lengthRight}
 use Rattle.descriptor.specs.declared.place.Place.{Place}
 use Rattle.descriptor.specs.declared.configuration.Configuration.{Configuration}
@@ -42,11 +41,6 @@ pub record Allowed (window : ℕ) (c : Configuration) : Type 0 where
   pub b2h-right : lengthRight (c .b2h .length) ≡ true
   pub h2b-right : lengthRight (c .h2b .length) ≡ true
   pub units : OnUnits c
-
--- a right length as numbers
-pub length-bounds : (length : ℕ) → lengthRight length ≡ true → (128 ≤ length) × (length ≤ 65536)
-length-bounds length e =
-    within-bounds 128 65536 length (both (within 128 65536 length) (eqb (length % 4) 0) e .0)
 
 -- `t && u && ..`: the test at each place of the list holds
 abbrev pub all : Bool → List Bool → Bool

@@ -18,7 +18,8 @@ use Rattle.descriptor.specs.declared.reading.Configured.the-variants.{Ch
 use Rattle.descriptor.specs.Configuration.{allowed}
 use Rattle.descriptor.specs.Reading.{signatureRight, versionRight, typeRight, configurationIn, readOrder}
 use Rattle.descriptor.specs.Reading.{configuredOf}
-use Rattle.descriptor.proofs.Configurations.{Allowed, allowed-facts, allowed-holds, length-bounds, each}
+use Rattle.descriptor.proofs.Configurations.{Allowed, allowed-facts, allowed-holds, each}
+use Rattle.mmbi.proofs.Pointers.{length-facts}
 
 -- what makes a descriptor good
 pub record Good (s : List ℕ) : Type 0 where
@@ -86,8 +87,8 @@ module _ (s : List ℕ) where
 never-far : (s : List ℕ) → length s ≤ 2 ^ 32 → FarBase s 8 ⊎ FarBase s 12
     → Allowed (length s) (configurationIn s) → ⊥
 unfolding configurationIn
-never-far s small (inl h) a = omega (arith, a .b2h, length-bounds (configurationIn s .b2h .length) (a .b2h-right))
-never-far s small (inr h) a = omega (arith, a .h2b, length-bounds (configurationIn s .h2b .length) (a .h2b-right))
+never-far s small (inl h) a = omega (arith, a .b2h, length-facts (configurationIn s .b2h .length) (a .b2h-right))
+never-far s small (inr h) a = omega (arith, a .h2b, length-facts (configurationIn s .h2b .length) (a .h2b-right))
 
 -- "Base 2^29 − 1 .. In any window up to 4 GiB it is refused with 10.": of either ring
 pub far-ring : (s : List ℕ) → 64 ≤ length s → length s ≤ 2 ^ 32 → signatureRight s ≡ true → FarBase s 8 ⊎ FarBase s 12

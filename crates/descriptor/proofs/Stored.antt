@@ -19,7 +19,8 @@ use Rattle.descriptor.specs.declared.configuration.Configuration.{Config
 use Rattle.descriptor.specs.Configuration.{onUnits, allowed}
 use Rattle.descriptor.specs.declared.reading.Configured.the-variants.{Checked}
 use Rattle.descriptor.specs.Reading.{signatureRight, baseAt, configurationIn, configuredOf}
-use Rattle.descriptor.proofs.Configurations.{allowed-facts, length-bounds}
+use Rattle.descriptor.proofs.Configurations.{allowed-facts}
+use Rattle.mmbi.proofs.Pointers.{length-facts}
 
 unit : (n : ℕ) → n * 8 % 8 ≡ 0
 unit n = omega arith
@@ -100,7 +101,7 @@ module _ (n : ℕ) (c : Configuration) where
     base b h k = rw (word-back highFirst (b / 8) [] (omega arith)) (base-back b h k)
 
     size : (l : ℕ) → lengthRight l ≡ true → wordAt highFirst (wordBytes highFirst l ++ []) 0 ≡ l
-    size l h = word-back highFirst l [] (omega (arith, length-bounds l h))
+    size l h = word-back highFirst l [] (omega (arith, length-facts l h))
 
     for-configuration : configurationIn (windowFor n c) ≡ c
     unfolding configurationIn windowFor words wordAt wordBytes

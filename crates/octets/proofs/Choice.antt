@@ -2,8 +2,7 @@
 -- Assumes nothing.
 use mathlib.Core.Path.{_≡_, refl, sym, _∙_}
 use mathlib.Core.Bool.{Bool, true, false, _&&_, false≢true}
-use Prim.Native.Nat.{ℕ, suc, _≤_, _<_}
-use native.Mathlib.Nat.{suc-ne-zero}
+use Prim.Native.Nat.{ℕ, _≤_, _<_}
 use borrow.Author.Tests.{leb-true, le-leb, lt-leb}
 use lib.Dec.{leb}
 use Rattle.octets.specs.Choice.{pick, within}
@@ -17,11 +16,6 @@ pub pick-elim : {A : Type 0} (P : A → Type 0) (t : Bool) (x y : A) → (t ≡ 
     → P (pick t x y)
 pick-elim P true x y f g = f refl
 pick-elim P false x y f g = g refl
-
--- a check order that ends in 0 went past this check
-pub passed : (t : Bool) (n x : ℕ) → pick t (suc n) x ≡ 0 → (t ≡ false) × (x ≡ 0)
-passed true n x e = absurd (suc-ne-zero n e)
-passed false n x e = (refl, e)
 
 -- both tests of a pair hold
 pub both : (a b : Bool) → (a && b) ≡ true → (a ≡ true) × (b ≡ true)

@@ -42,4 +42,5 @@ module _ {l : List ℕ} {at n left rest : ℕ} {out : List ℕ} (y : Laying l at
   pub laying-last : rest < 10 → laid out at ((48 + rest % 10) ∷ []) ≡ laid l at (decimal n)
   laying-last h =
       let place : at + left ≡ suc at = omega (arith, y .counted, count-one rest h) in
-      rw (y .stored, place, mod-eq-of-lt h, sym (y .whole), decimal-one rest h) (laid-in-front l at (y .tail) (48 + rest))
+      rw (y .stored, place, mod-eq-of-lt h, sym (y .whole), decimal-one rest h)
+      (laid-in-front l at (y .tail) (48 + rest))

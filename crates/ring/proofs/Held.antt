@@ -45,8 +45,7 @@ holds-none most configured ring pointer set-up p =
       from = p;
       to = p;
       sized = refl;
-      bytes =
-          ap (λ (n : ℕ). take n (roundFrom pointer ring)) none;
+      bytes = ap (λ (n : ℕ). take n (roundFrom pointer ring)) none;
     }
 
 sized-more : (most : ℕ) (packets : List (List ℕ)) (p : List ℕ) → allSized most packets ≡ true

@@ -17,7 +17,8 @@ use Rattle.descriptor.specs.declared.configuration.Area.the-variants.{B2h, H2b,
 use Rattle.descriptor.specs.Places.{endOf}
 use Rattle.descriptor.specs.Configuration.{areaPlace, isRing, allowed}
 use Rattle.descriptor.proofs.Places.{Apart}
-use Rattle.descriptor.proofs.Configurations.{Allowed, allowed-facts, length-bounds}
+use Rattle.descriptor.proofs.Configurations.{Allowed, allowed-facts}
+use Rattle.mmbi.proofs.Pointers.{length-facts}
 use Rattle.window.specs.declared.word.Pointer.{Pointer}
 use Rattle.window.specs.declared.word.Pointer.the-variants.{H2bWrite, B2hRead, B2hWrite, H2bRead}
 use Rattle.window.specs.Places.{placeIn, areaOf}
@@ -81,7 +82,7 @@ module _ (s : List ℕ) (c : Configuration) (ring : Area) (bytes : List ℕ) (is
   -- the descriptor
   descriptor-stays : take 64 after ≡ take 64 s
   descriptor-stays =
-      let least = length-bounds (areaPlace c ring .length) (ring-right (length s) c ring is facts) .0 in
+      let least = length-facts (areaPlace c ring .length) (ring-right (length s) c ring is facts) .low in
       laid-beside s place bytes 0 64
       (⊎-elim (λ (h : _). absurd (omega (arith, least))) (λ (h : _). inr h)
       (ring-clear (length s) c ring is facts .descriptor))

@@ -31,7 +31,8 @@ use Rattle.descriptor.specs.Configuration.{areaPlace, isRing, allowed}
 use Rattle.window.specs.Places.{placeIn, areaOf}
 use Rattle.window.specs.Words.{wordPlace, hasUp, cleared, wordWhere, wordIn, pointsInto, storeOrder, storeRefusal}
 use Rattle.window.specs.Words.{withWord, stored, pointing, storedPointer}
-use Rattle.descriptor.proofs.Configurations.{Clear, Allowed, allowed-facts, length-bounds}
+use Rattle.descriptor.proofs.Configurations.{Clear, Allowed, allowed-facts}
+use Rattle.mmbi.proofs.Pointers.{length-facts}
 use Rattle.window.proofs.Areas.{ring-right}
 use Rattle.octets.proofs.Laid.{laid-beside}
 use Rattle.octets.proofs.Words.{word-length, laid-word, laid-word-beside}
@@ -124,7 +125,7 @@ module _ (s : List ℕ) (c : Configuration) (p : Pointer) (w : Word) where
     stored-back =
         let pointer = store-facts (length s) c p (w .pointer) good .1 in
         let right = ring-right (length s) c (pointsInto p) (points-into-ring p) facts in
-        let most = length-bounds (areaPlace c (pointsInto p) .length) right .1 in
+        let most = length-facts (areaPlace c (pointsInto p) .length) right .high in
         word-stored
         ∙ ap (cleared p) (word-back (cleared p w) (pointer .fours) (omega (arith, pointer .below, most)))
         ∙ cleared-twice p w

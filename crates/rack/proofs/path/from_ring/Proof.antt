@@ -10,16 +10,18 @@ use Rattle.rack.proofs.path.from_ring.Tie as tie
 
 returns : tie.Need-returns
 returns c =
-    let read = c .before .before .before .before .before .read in
-    let a = c .before .before .before .before .before .before .before .before .before .before .args in
+    let place = c .before .before .before .before .before in
+    let read = place .read in
+    let a = place .before .before .before .before .before .args in
     let tag = c .before .before .match .keys2 in
     let none = ring-none _ _ _ (a .flags) _ _ (a .out .now) (read .result) (read .ensures .0) tag in
     (rw (c .no-packet .ensures, c .before .ring .ensures, none), read .ensures .1)
 
 part-give-end : tie.Need-part-give-end
 part-give-end c =
-    let read = c .before .before .before .before .before .before .before .read in
-    let a = c .before .before .before .before .before .before .before .before .before .before .before .before .args in
+    let place = c .before .before .before .before .before .before .before in
+    let read = place .read in
+    let a = place .before .before .before .before .before .args in
     let told = c .before .before .before .carried .given in
     let fits = ring-fits _ _ _ (a .flags) _ _ (a .out .now) (read .result) (read .ensures .0) _ _ (told .1) in
     omega (arith, read .kept .1 .1 .1 .1 .0)
