@@ -25,7 +25,7 @@ use Rattle.mmbi.proofs.transient.Reads as transient
 use Rattle.ring.specs.Writing as putting
 use Rattle.ring.specs.Answers.{enteredIn}
 use Rattle.ring.proofs.write.Reads as ring-write
-use Rattle.descriptor.specs.Reading.{configuredOf}
+use Rattle.descriptor.specs.Reading.{describedIn, describedOf}
 use Rattle.descriptor.proofs.read_descriptor.Reads as read-descriptor
 use Rattle.mctp.specs.Refusals.{outcomeNumber}
 use Rattle.slots.specs.Changes.{setUpRefusal, setUpOf}
@@ -84,7 +84,8 @@ pub ring-write-is : (κs : Lfts 2) (a r e : _) → ring-write.Post κs a r e
 ring-write-is κs a r e p = (p .0, p .1)
 
 -- the window, by itself; with a configuration, and then an area, or a word's place with a word or a pointer
-pub read-descriptor-is : (κs : Lfts 1) (a r e : _) → read-descriptor.Post κs a r e → r ≡ configuredOf (a .0 .now)
+pub read-descriptor-is : (κs : Lfts 1) (a r e : _) → read-descriptor.Post κs a r e
+    → describedIn r ≡ describedOf (a .0 .now)
 read-descriptor-is κs a r e p = p
 
 pub window-refusal-is : (κs : Lfts 1) (a r e : _) → window-refusal.Post κs a r e → r

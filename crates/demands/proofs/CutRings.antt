@@ -10,8 +10,7 @@ use lib.ListN.{length}
 use Rattle.descriptor.specs.declared.configuration.Configuration.{Configuration}
 use Rattle.descriptor.specs.declared.configuration.Area.{Area}
 use Rattle.descriptor.specs.Configuration.{areaPlace, isRing}
-use Rattle.descriptor.specs.declared.reading.Configured.the-variants.{Checked}
-use Rattle.descriptor.specs.Reading.{configuredOf}
+use Rattle.descriptor.specs.Reading.{found, describedOf}
 use Rattle.descriptor.proofs.Readings.{found-allowed}
 use Rattle.window.specs.Places.{areaOf}
 use Rattle.window.specs.PutBack.{RingChanged}
@@ -22,7 +21,7 @@ use Rattle.ring.specs.Writing as putting
 use Rattle.ring.proofs.RoundTrip.{written-length}
 
 pub cut-ring-right : (window : List ℕ) (c : Configuration) (area : Area) → isRing area ≡ true
-    → configuredOf window ≡ Checked c
+    → describedOf window ≡ found c
     → setUpRight 64 (areaPlace c area .length) (length (areaOf window c area)) ≡ true
 cut-ring-right window c area is e =
     let cut = found-ring-cut window c area is e in
@@ -30,7 +29,7 @@ cut-ring-right window c area is e =
 
 -- the window once a ring that was lent out of it, and written to, is back
 module _ (window : List ℕ) (c : Configuration) (area : Area) (is : isRing area ≡ true)
-    (e : configuredOf window ≡ Checked c)
+    (e : describedOf window ≡ found c)
     (configured : ℕ) (running : Bool) (read write : ℕ) (p : List ℕ) where
   abbrev ring : List ℕ
   ring = putting.writtenOf 64 (areaOf window c area) configured running read write p

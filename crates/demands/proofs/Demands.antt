@@ -24,8 +24,7 @@ use Rattle.pcc.proofs.Layouts.{good-front}
 use Rattle.pcc.proofs.Writings.{written-whole, written-refused}
 use Rattle.descriptor.specs.declared.configuration.Area.{Area}
 use Rattle.descriptor.specs.declared.configuration.Configuration.{Configuration}
-use Rattle.descriptor.specs.declared.reading.Configured.the-variants.{Checked}
-use Rattle.descriptor.specs.Reading.{configuredOf}
+use Rattle.descriptor.specs.Reading.{found, describedOf}
 use Rattle.descriptor.specs.Configuration.{isRing, areaPlace}
 use Rattle.window.specs.declared.word.Pointer.{Pointer}
 use Rattle.window.specs.Places.{areaOf}
@@ -117,7 +116,7 @@ ring-output = outputs.ring-output 64
 
 -- a ring cut out of a window by a configuration that was read from it never gets 1, in reading and in writing
 pub cut-ring-is-never-1 : (window : List ℕ) (c : Configuration) (area : Area) → isRing area ≡ true
-    → configuredOf window ≡ Checked c
+    → describedOf window ≡ found c
     → (readable running : Bool) (read write n : ℕ)
     → (taking.foundOf 64 (areaOf window c area) (areaPlace c area .length) readable read write n ≡ taking.refused 1 → ⊥)
     × (putting.enteredOf 64 (length (areaOf window c area)) (areaPlace c area .length) running read write n
@@ -130,7 +129,7 @@ cut-ring-is-never-1 window c area is e readable running read write n =
 
 -- what is written to it changes that ring alone: descriptor, structures with their words, and the other ring stay
 pub a-write-stays-in-its-ring : (window : List ℕ) (c : Configuration) (area : Area) → isRing area ≡ true
-    → configuredOf window ≡ Checked c
+    → describedOf window ≡ found c
     → (configured : ℕ) (running : Bool) (read write : ℕ) (p : List ℕ)
     → RingChanged window c area (putting.writtenOf 64 (areaOf window c area) configured running read write p)
 a-write-stays-in-its-ring = write-stays

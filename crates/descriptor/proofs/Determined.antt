@@ -1,10 +1,14 @@
 -- The contracts leave no choice: two results that one allows on the same input are equal.
 -- Assumes nothing.
-use mathlib.Core.Path.{_≡_}
+use mathlib.Core.Path.{_≡_, ap}
 use mathlib.Core.Bool.{Bool}
 use Prim.Native.Nat.{ℕ}
 use contract.Lifetimes.{Lfts}
 use Rattle.octets.proofs.Choice.{determined}
+use Rattle.mctp.specs.Refusals.{numberOf}
+use Rattle.mctp.proofs.Refusals.{number-injective}
+use Rattle.descriptor.specs.Reading.{describedIn}
+use Rattle.descriptor.specs.declared.reading.Configured.the-variants.{Checked, Refused}
 use Rattle.descriptor.specs.declared.place.Place.{Place}
 use Rattle.descriptor.specs.declared.reading.Configured.{Configured}
 use Rattle.descriptor.proofs.reading.read_descriptor.Reads as read-descriptor
@@ -12,9 +16,18 @@ use Rattle.descriptor.proofs.configuration.is_allowed.Reads as is-allow
 use Rattle.descriptor.proofs.configuration.area_place.Reads as area-place
 use Rattle.descriptor.proofs.place.end.Reads as end
 
+-- an answer is told by its number or its configuration
+described-injective : (a b : Configured) → describedIn a ≡ describedIn b → a ≡ b
+described-injective (Checked c) (Checked d) e = cc
+described-injective (Checked c) (Refused n) e = cc
+described-injective (Refused m) (Checked d) e = cc
+described-injective (Refused m) (Refused n) e =
+    let same : numberOf m ≡ numberOf n = cc in
+    ap Refused (number-injective m n same)
+
 pub read-descriptor-determined : (κs : Lfts 1) (a : _) (r q : Configured) (e f : _)
     → read-descriptor.Post κs a r e → read-descriptor.Post κs a q f → r ≡ q
-read-descriptor-determined κs a r q e f p o = determined p o
+read-descriptor-determined κs a r q e f p o = described-injective r q (determined p o)
 
 pub is-allowed-determined : (κs : Lfts 0) (a : _) (r q : Bool) (e f : _)
     → is-allowed.Post κs a r e → is-allowed.Post κs a q f → r ≡ q

@@ -7,7 +7,7 @@ use native.Mathlib.Omega.{arith}
 use lib.ListN.{length, getD, replicate}
 use Rattle.octets.specs.Bytes.{Below}
 use Rattle.octets.specs.Words.{highFirst, wordAt}
-use Rattle.descriptor.specs.Reading.{signatureRight, baseAt, configurationIn, configuredOf}
+use Rattle.descriptor.specs.Reading.{signatureRight, baseAt, configurationIn, describedOf}
 
 -- How much of each byte is looked at, as a divisor: 256 for all of it, 16 for the low four bits (version, buffer
 -- type), 32 for the low five (a base's bits 28..24), 1 for nothing ("Reserved", OS use, interrupts, and all that
@@ -65,8 +65,8 @@ module _ (a b : List ℕ) (w : Alike a b) where
       let e = w .same in
       rw (whole 0 (e 0), whole 1 (e 1), whole 2 (e 2), whole 3 (e 3), whole 4 (e 4), whole 5 (e 5))
 
-  pub reserved-ignored : configuredOf a ≡ configuredOf b
-  unfolding configuredOf
+  pub reserved-ignored : describedOf a ≡ describedOf b
+  unfolding describedOf
   reserved-ignored =
       let version : getD a 6 0 % 16 ≡ getD b 6 0 % 16 = w .same 6 in
       let kind : getD a 24 0 % 16 ≡ getD b 24 0 % 16 = w .same 24 in

@@ -7,13 +7,10 @@ use Prim.Native.Nat.{ℕ, _-_, _*_, _^_, _≤_}
 use lib.Dec.{lit≤}
 use lib.ListN.{take, set, replicate}
 use Rattle.octets.specs.Words.{wordAt}
-use Rattle.mctp.specs.Refusals.{numberOf}
 use Rattle.descriptor.specs.declared.configuration.Configuration.{Configuration}
-use Rattle.descriptor.specs.declared.reading.Configured.{Configured}
-use Rattle.descriptor.specs.declared.reading.Configured.the-variants.{Checked, Refused}
 use Rattle.descriptor.specs.Places.{endOf, liesIn}
 use Rattle.descriptor.specs.Configuration.{structureAt, inside, clear, allowed}
-use Rattle.descriptor.specs.Reading.{signatureRight, configurationIn, configuredOf}
+use Rattle.descriptor.specs.Reading.{signatureRight, configurationIn, Described, found, refused, describedOf}
 
 -- The descriptor: `#MMBI$`, version 1, for OS use; B2H at 8 · 0x0A = 80 with 128 bytes, H2B at 8 · 0x1A = 208 with
 -- 132 bytes; type 1; Host_ROS at 8 · 8 = 64, Host_RWS at 8 · 9 = 72
@@ -48,16 +45,16 @@ imageConfiguration =
     }
 
 -- document 01's number of what reading gives
-abbrev number : Configured → ℕ
-number (Checked c) = 0
-number (Refused why) = numberOf why
+abbrev number : Described → ℕ
+number (found c) = 0
+number (refused n) = n
 
 abbrev pub numbered : List ℕ → ℕ
-numbered s = number (configuredOf s)
+numbered s = number (describedOf s)
 
 -- the whole descriptor image with its configuration
-pub image-found : configuredOf windowImage ≡ Checked imageConfiguration
-unfolding configuredOf signatureRight configurationIn allowed inside clear wordAt
+pub image-found : describedOf windowImage ≡ found imageConfiguration
+unfolding describedOf signatureRight configurationIn allowed inside clear wordAt
 image-found = refl
 
 -- "Base 2^29 − 1 is byte 4,294,967,288; with 65,536 added it passes 32 bits."
@@ -94,22 +91,22 @@ given n =
     }
 
 -- a window of 2,324 bytes, which a ring of 260 (00 00 01 04) ends
-pub reserved-set : configuredOf (lengthened 0 0 1 4 ++ replicate 2260 0) ≡ Checked (given 260)
-unfolding configuredOf signatureRight configurationIn allowed inside clear wordAt
+pub reserved-set : describedOf (lengthened 0 0 1 4 ++ replicate 2260 0) ≡ found (given 260)
+unfolding describedOf signatureRight configurationIn allowed inside clear wordAt
 reserved-set = refl
 
 pub one-byte-short : numbered (lengthened 0 0 1 4 ++ replicate 2259 0) ≡ 10
-unfolding configuredOf signatureRight configurationIn allowed inside clear wordAt
+unfolding describedOf signatureRight configurationIn allowed inside clear wordAt
 one-byte-short = refl
 
 -- lengths at the borders, each in a window that holds such a ring: 128 (00 00 00 80) is the least, 65,536 (00 01 00 00)
 -- the most
-pub length-128 : configuredOf (lengthened 0 0 0 128 ++ replicate 2128 0) ≡ Checked (given 128)
-unfolding configuredOf signatureRight configurationIn allowed inside clear wordAt
+pub length-128 : describedOf (lengthened 0 0 0 128 ++ replicate 2128 0) ≡ found (given 128)
+unfolding describedOf signatureRight configurationIn allowed inside clear wordAt
 length-128 = refl
 
-pub length-65536 : configuredOf (lengthened 0 1 0 0 ++ replicate 67536 0) ≡ Checked (given 65536)
-unfolding configuredOf signatureRight configurationIn allowed inside clear wordAt
+pub length-65536 : describedOf (lengthened 0 1 0 0 ++ replicate 67536 0) ≡ found (given 65536)
+unfolding describedOf signatureRight configurationIn allowed inside clear wordAt
 length-65536 = refl
 
 -- 10: 124, 126, 65,540, and 130, which is no multiple of 4; 131,200 (00 02 00 80) is refused where 128 is accepted
@@ -122,7 +119,7 @@ pub lengths-refused :
     ∷ (lengthened 0 2 0 128 ++ replicate 2128 0)
     ∷ [])
     ≡ replicate 5 10
-unfolding configuredOf signatureRight configurationIn allowed inside clear wordAt
+unfolding describedOf signatureRight configurationIn allowed inside clear wordAt
 lengths-refused = refl
 
 -- All four bytes of each field, by the bytes' numbers but for the high three bits of a base: 8 · 0x1F020304,
@@ -149,7 +146,7 @@ pub nine :
     map numbered
     (map (λ (i : ℕ). set windowImage i 0) (0 ∷ 1 ∷ 2 ∷ 3 ∷ 4 ∷ 5 ∷ []) ++ (take 63 windowImage ∷ replicate 340 0 ∷ []))
     ≡ replicate 8 9
-unfolding configuredOf signatureRight configurationIn allowed inside clear wordAt
+unfolding describedOf signatureRight configurationIn allowed inside clear wordAt
 nine = refl
 
 -- 10: versions 0, 2 and 9, and so the types; the high four bits of each are reserved
@@ -157,5 +154,5 @@ pub ten :
     map numbered
     (map (set windowImage 6) (0 ∷ 2 ∷ 9 ∷ 0x10 ∷ []) ++ map (set windowImage 24) (0 ∷ 2 ∷ 9 ∷ 0x10 ∷ []))
     ≡ replicate 8 10
-unfolding configuredOf signatureRight configurationIn allowed inside clear wordAt
+unfolding describedOf signatureRight configurationIn allowed inside clear wordAt
 ten = refl

@@ -11,13 +11,10 @@ use lib.Dec.{leb}
 use lib.ListN.{length, getD}
 use Rattle.octets.specs.Words.{highFirst, wordAt}
 use Rattle.octets.proofs.Checks.{Hold, FailsAt, answerAt, first-failing, none-failing, all-hold}
-use Rattle.mctp.specs.declared.refusal.Refusal.the-variants.{Descriptor}
 use Rattle.descriptor.specs.declared.configuration.Configuration.{Configuration}
-use Rattle.descriptor.specs.declared.reading.Configured.{Configured}
-use Rattle.descriptor.specs.declared.reading.Configured.the-variants.{Checked, Refused}
 use Rattle.descriptor.specs.Configuration.{allowed}
 use Rattle.descriptor.specs.Reading.{signatureRight, versionRight, typeRight, configurationIn, readOrder}
-use Rattle.descriptor.specs.Reading.{configuredOf}
+use Rattle.descriptor.specs.Reading.{Described, found, refused, describedOf}
 use Rattle.descriptor.proofs.Configurations.{Allowed, allowed-facts, allowed-holds, each}
 use Rattle.mmbi.proofs.Pointers.{length-facts}
 
@@ -33,24 +30,24 @@ pub record Good (s : List ℕ) : Type 0 where
 abbrev pub FarBase : List ℕ → ℕ → Type 0
 FarBase s at = wordAt highFirst s at % 536870912 ≡ 536870911
 
-abbrev isChecked : Configured → Bool
-isChecked (Checked c) = true
-isChecked (Refused why) = false
+abbrev isFound : Described → Bool
+isFound (found c) = true
+isFound (refused n) = false
 
 module _ (s : List ℕ) where
   -- the first check that fails answers
   pub refused-at : (i : ℕ) → FailsAt (readOrder s) i
-      → configuredOf s ≡ answerAt (readOrder s) (Checked (configurationIn s)) i
-  unfolding configuredOf
-  refused-at i f = first-failing (readOrder s) (Checked (configurationIn s)) i f
+      → describedOf s ≡ answerAt (readOrder s) (found (configurationIn s)) i
+  unfolding describedOf
+  refused-at i f = first-failing (readOrder s) (found (configurationIn s)) i f
 
-  pub none-fails : Hold (readOrder s) → configuredOf s ≡ Checked (configurationIn s)
-  unfolding configuredOf
-  none-fails h = none-failing (readOrder s) (Checked (configurationIn s)) h
+  pub none-fails : Hold (readOrder s) → describedOf s ≡ found (configurationIn s)
+  unfolding describedOf
+  none-fails h = none-failing (readOrder s) (found (configurationIn s)) h
 
   -- "Accepted exactly if": what has every fact is accepted, and what is accepted has them (`good`)
-  pub accepted : Good s → configuredOf s ≡ Checked (configurationIn s)
-  unfolding configuredOf
+  pub accepted : Good s → describedOf s ≡ found (configurationIn s)
+  unfolding describedOf
   accepted g =
       rw (
         le-leb 64 (length s) (g .long),
@@ -60,10 +57,10 @@ module _ (s : List ℕ) where
         allowed-holds (length s) (configurationIn s) (g .places),
       )
 
-  module _ (c : Configuration) (e : configuredOf s ≡ Checked c) where
+  module _ (c : Configuration) (e : describedOf s ≡ found c) where
     held : Hold (readOrder s)
-    unfolding configuredOf
-    held = all-hold isChecked (readOrder s) (Checked (configurationIn s)) refl (ap isChecked e)
+    unfolding describedOf
+    held = all-hold isFound (readOrder s) (found (configurationIn s)) refl (ap isFound e)
 
     pub good : Good s
     good =
@@ -92,8 +89,8 @@ never-far s small (inr h) a = omega (arith, a .h2b, length-facts (configurationI
 
 -- "Base 2^29 − 1 .. In any window up to 4 GiB it is refused with 10.": of either ring
 pub far-ring : (s : List ℕ) → 64 ≤ length s → length s ≤ 2 ^ 32 → signatureRight s ≡ true → FarBase s 8 ⊎ FarBase s 12
-    → configuredOf s ≡ Refused Descriptor
-unfolding configuredOf
+    → describedOf s ≡ refused 10
+unfolding describedOf
 far-ring s long small signed far =
     rw (
       le-leb 64 (length s) long,

@@ -17,8 +17,7 @@ use Rattle.octets.proofs.Words.{word-back}
 use Rattle.octets.proofs.Below.{below-nil, below-cons, below-append, below-zeros, below-word}
 use Rattle.descriptor.specs.declared.configuration.Configuration.{Configuration}
 use Rattle.descriptor.specs.Configuration.{onUnits, allowed}
-use Rattle.descriptor.specs.declared.reading.Configured.the-variants.{Checked}
-use Rattle.descriptor.specs.Reading.{signatureRight, baseAt, configurationIn, configuredOf}
+use Rattle.descriptor.specs.Reading.{found, signatureRight, baseAt, configurationIn, describedOf}
 use Rattle.descriptor.proofs.Configurations.{allowed-facts}
 use Rattle.mmbi.proofs.Pointers.{length-facts}
 
@@ -121,14 +120,14 @@ module _ (n : ℕ) (c : Configuration) where
           rws = rws i;
         }
 
-    for-configured : configuredOf (windowFor n c) ≡ Checked c
-    unfolding configuredOf windowFor words signatureRight wordBytes
-    for-configured =
+    for-described : describedOf (windowFor n c) ≡ found c
+    unfolding describedOf windowFor words signatureRight wordBytes
+    for-described =
         let long : 64 ≤ n = allowed-facts n c ok .descriptor in
         let size : length (windowFor n c) ≡ n = for-length (omega arith) in
         rw (size, le-leb 64 n long, for-configuration, ok)
 
     -- it has n bytes, and its descriptor gives this configuration
-    pub given-by-a-descriptor : (s : List ℕ) × (length s ≡ n) × Below 256 s × (configuredOf s ≡ Checked c)
+    pub given-by-a-descriptor : (s : List ℕ) × (length s ≡ n) × Below 256 s × (describedOf s ≡ found c)
     given-by-a-descriptor =
-        (windowFor n c, for-length (omega (arith, allowed-facts n c ok .descriptor)), for-bytes, for-configured)
+        (windowFor n c, for-length (omega (arith, allowed-facts n c ok .descriptor)), for-bytes, for-described)

@@ -8,7 +8,7 @@ use lib.Dec.{eqb, leb}
 use lib.ListN.{length, getD}
 use Rattle.octets.specs.Checks.{Check, _unless_, firstFailing}
 use Rattle.octets.specs.Words.{highFirst, wordAt}
-use Rattle.mctp.specs.declared.refusal.Refusal.the-variants.{Signature, Descriptor}
+use Rattle.mctp.specs.Refusals.{numberOf}
 use Rattle.descriptor.specs.Configuration.{allowed}
 use Rattle.descriptor.specs.declared.configuration.Configuration.{Configuration}
 use Rattle.descriptor.specs.declared.reading.Configured.{Configured}
@@ -47,13 +47,23 @@ configurationIn s =
       rws = baseAt s 36;
     }
 
--- "Otherwise 9 for the signature or a window too short to hold the descriptor, else 10.": the two by name
-abbrev pub readOrder : List ℕ → List (Check Configured)
+-- what reading gives, in document 01's numbers: the configuration, or a refusal
+pub data Described : Type 0 where
+  found : Configuration → Described
+  refused : ℕ → Described
+
+-- each case of the answer, with its number or its value
+abbrev pub describedIn : Configured → Described
+describedIn (Checked c) = found c
+describedIn (Refused why) = refused (numberOf why)
+
+-- "Otherwise 9 for the signature or a window too short to hold the descriptor, else 10."
+abbrev pub readOrder : List ℕ → List (Check Described)
 readOrder s =
-    Refused Signature unless (leb 64 (length s) && signatureRight s)
-    ∷ Refused Descriptor unless (versionRight s && typeRight s && allowed (length s) (configurationIn s))
+    refused 9 unless (leb 64 (length s) && signatureRight s)
+    ∷ refused 10 unless (versionRight s && typeRight s && allowed (length s) (configurationIn s))
     ∷ []
 
--- what reading gives: the first refusal, or the configuration
-unfoldable pub configuredOf : List ℕ → Configured
-configuredOf s = firstFailing (readOrder s) (Checked (configurationIn s))
+-- the first refusal, or the configuration
+unfoldable pub describedOf : List ℕ → Described
+describedOf s = firstFailing (readOrder s) (found (configurationIn s))

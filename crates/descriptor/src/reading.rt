@@ -5,7 +5,7 @@ use crate::place::Place;
 use mctp::Refusal;
 ghost use mathlib.Core.Path.{_≡_};
 ghost use Rattle.descriptor.specs.Reading.{signatureRight, versionRight, typeRight, baseAt, configurationIn};
-ghost use Rattle.descriptor.specs.Reading.{configuredOf};
+ghost use Rattle.descriptor.specs.Reading.{describedIn, describedOf};
 
 pub enum Configured {
     Checked(Configuration),
@@ -13,7 +13,7 @@ pub enum Configured {
 }
 
 pub fn read_descriptor(window: &[u8]) -> Configured
-    ensures { λ r. ⌜ r ≡ configuredOf (now (window .entry)) ⌝ }
+    ensures { λ r. ⌜ describedIn r ≡ describedOf (now (window .entry)) ⌝ }
 {
     let signed = (64 <= window.len()) & signature_right(window);
     if !signed {

@@ -25,9 +25,24 @@ use Rattle.slots.specs.Changes.{withState, freedOf}
 use Rattle.slots.proofs.States.{slot-other}
 use Rattle.slots.proofs.Changes.{freed-right}
 use Rattle.decision.proofs.Decided.{every-decision}
-use Rattle.receiver.specs.Step.{answerOf, carriedOut, stepOf}
+use Rattle.receiver.specs.Step.{Said, refused, held, done, answerOf, carriedOut, stepOf}
 use Rattle.receiver.proofs.Laws.{OneSlot, step-right, one-slot}
-use Rattle.messages.specs.Run.{Call, give, free, message, Ran, called, joined, run, intoSlot, untouched}
+use Rattle.messages.specs.Run.{Call, give, free, Reply, rules, freed, message, Ran, called, joined, run}
+
+-- an answer that says that a body went into this slot
+abbrev pub intoSlot : ℕ → Said → Bool
+intoSlot slot (refused n) = false
+intoSlot slot (held i bytes again) = eqb i slot
+intoSlot slot (done i length again) = eqb i slot
+
+abbrev pub wrote : ℕ → Reply → Bool
+wrote slot (rules said) = intoSlot slot said
+wrote slot (freed n) = false
+
+-- "Its bytes stay until a later call writes there": none of these did
+abbrev pub untouched : ℕ → List Reply → Bool
+untouched slot [] = true
+untouched slot (a ∷ answers) = not (wrote slot a) && untouched slot answers
 
 -- a slot freed leaves the others
 pub freed-others : (most : ℕ) (r : Receiver) (i j : ℕ) → (j ≡ i → ⊥)

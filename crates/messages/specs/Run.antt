@@ -2,8 +2,6 @@
 -- alone).
 -- Assumes nothing.
 use Prim.Native.Nat.{ℕ, _*_}
-use mathlib.Core.Bool.{Bool, true, false, not, _&&_}
-use lib.Dec.{eqb}
 use mathlib.Core.List.{List, [], _∷_, _++_, map}
 use lib.ListN.{take, drop}
 use Rattle.slots.specs.declared.state.Receiver.{Receiver}
@@ -73,18 +71,3 @@ run most r m (c ∷ calls) =
 -- a list of packets, given one after the other
 abbrev pub runPackets : ℕ → Receiver → List ℕ → List (List ℕ) → Ran
 runPackets most r m packets = run most r m (map give packets)
-
--- an answer that says that a body went into this slot
-abbrev pub intoSlot : ℕ → Said → Bool
-intoSlot slot (refused n) = false
-intoSlot slot (held i bytes again) = eqb i slot
-intoSlot slot (done i length again) = eqb i slot
-
-abbrev pub wrote : ℕ → Reply → Bool
-wrote slot (rules said) = intoSlot slot said
-wrote slot (freed n) = false
-
--- "Its bytes stay until a later call writes there": none of these did
-abbrev pub untouched : ℕ → List Reply → Bool
-untouched slot [] = true
-untouched slot (a ∷ answers) = not (wrote slot a) && untouched slot answers

@@ -13,9 +13,8 @@ use Rattle.descriptor.specs.declared.configuration.Configuration.{Configuration
 use Rattle.descriptor.specs.declared.configuration.Area.{Area}
 use Rattle.descriptor.specs.declared.configuration.Area.the-variants.{B2h, H2b, Ros, Rws}
 use Rattle.descriptor.specs.Places.{endOf}
-use Rattle.descriptor.specs.declared.reading.Configured.the-variants.{Checked}
 use Rattle.descriptor.specs.Configuration.{areaPlace, isRing, allowed}
-use Rattle.descriptor.specs.Reading.{configuredOf}
+use Rattle.descriptor.specs.Reading.{found, describedOf}
 use Rattle.window.specs.Places.{placeIn, areaOf}
 use Rattle.descriptor.proofs.Configurations.{Allowed, allowed-facts}
 use Rattle.descriptor.proofs.Readings.{found-allowed}
@@ -64,6 +63,6 @@ pub ring-cut : (s : List ℕ) (c : Configuration) (area : Area) → isRing area 
 ring-cut s c area r e = (area-length s c area e, ring-right (length s) c area r (allowed-facts (length s) c e))
 
 -- a ring cut out by a configuration that reading has found in this window
-pub found-ring-cut : (s : List ℕ) (c : Configuration) (area : Area) → isRing area ≡ true → configuredOf s ≡ Checked c
+pub found-ring-cut : (s : List ℕ) (c : Configuration) (area : Area) → isRing area ≡ true → describedOf s ≡ found c
     → (length (areaOf s c area) ≡ areaPlace c area .length) × (lengthRight (areaPlace c area .length) ≡ true)
 found-ring-cut s c area r e = ring-cut s c area r (found-allowed s c e)

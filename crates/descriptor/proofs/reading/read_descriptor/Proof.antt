@@ -8,9 +8,8 @@ use borrow.Author.Needs.{needs}
 use borrow.Author.Tests.{not-true, not-false}
 use lib.ListN.{length}
 use Rattle.descriptor.specs.declared.configuration.Configuration.{Configuration}
-use Rattle.descriptor.specs.declared.reading.Configured.the-variants.{Checked}
 use Rattle.descriptor.specs.Configuration.{allowed}
-use Rattle.descriptor.specs.Reading.{versionRight, typeRight, configurationIn}
+use Rattle.descriptor.specs.Reading.{versionRight, typeRight, configurationIn, found}
 use Rattle.descriptor.proofs.Readings.{refused-at, none-fails}
 use Rattle.descriptor.proofs.reading.read_descriptor.Statement.{statement}
 use Rattle.descriptor.proofs.reading.read_descriptor.Tie as tie
@@ -44,7 +43,7 @@ returns-3 c =
     let told = second _ (kind .before .version-right .ensures) (kind .type-right .ensures)
     (read .configuration-in .ensures)
     (c .before .is-allowed .ensures) in
-    ap Checked (read .configuration-in .ensures)
+    ap found (read .configuration-in .ensures)
     ∙ sym
     (none-fails _ (
       rw (← read .before .before .signature-right .ensures) (not-false _ (read .before .if1 .left)),
