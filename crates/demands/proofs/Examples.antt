@@ -292,7 +292,7 @@ pub messages-are-put-together : Accepted card (packetWith 0xBD 64 1) middles (pa
     (stepOf 64 card empty (packetWith 0xBD 64 1) .memory) (callsOf middles))
     (slotFor (card .slots) (keyOf (packetWith 0xBD 64 1)))
 messages-are-put-together =
-    demands.messages-are-put-together card empty (packetWith 0xBD 64 1) middles (packetWith 0x5D 2 3) (steps .train)
+    demands.messages-are-put-together card empty (packetWith 0xBD 64 1) middles (packetWith 0x5D 2 3) (steps .whole)
 
 pub a-message-of-one-packet :
     AcceptedAlone card literalPacket (run 64 card empty (give literalPacket ∷ []))

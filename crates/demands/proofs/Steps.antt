@@ -64,7 +64,7 @@ pub record Steps : Type 0 where
   pub room : slotFor (card .slots) (keyOf literalPacket) ≡ 0
   pub right : rightState 64 card ≡ true
   pub no-slot : freeRefusal 64 card 4 ≡ 1
-  pub train : OneMessage 64 card empty (packetWith 0xBD 64 1) middles (packetWith 0x5D 2 3)
+  pub whole : OneMessage 64 card empty (packetWith 0xBD 64 1) middles (packetWith 0x5D 2 3)
 
 pub steps : Steps
 unfolding stepOf decided ruled onStart onFollow gathered
@@ -84,7 +84,7 @@ steps =
       room = refl;
       right = refl;
       no-slot = refl;
-      train =
+      whole =
           record {
             state = refl;
             memory = refl;

@@ -74,21 +74,7 @@ returns c =
 pub drain-spec : {M : Type 1} → statement M
 drain-spec =
     tie.close
-    (tie.spec
-    Inv-loop
-    μ-loop
-    (λ c. (going-start _ _ _ _, refl, refl))
-    (λ c. c .before .loop .inv .0 .within)
-    (λ c. omega (arith, c .before .loop .inv .0 .within))
-    (λ c. omega (arith, c .before .loop .inv .0 .within))
-    (λ c κs. tt)
-    (λ c. omega arith)
-    (λ c. omega arith)
-    part-send-end
-    (λ c κs. tt)
-    (λ c. omega (arith, on c .within))
-    (λ c. omega (arith, on (c .before) .within))
-    loop-again
-    same-length
-    same-length-2
-    returns)
+    (tie.spec Inv-loop μ-loop (λ c. (going-start _ _ _ _, refl, refl)) (λ c. c .before .loop .inv .0 .within)
+    (λ c. omega (arith, c .before .loop .inv .0 .within)) (λ c. omega (arith, c .before .loop .inv .0 .within))
+    (λ c κs. tt) (λ c. omega arith) (λ c. omega arith) part-send-end (λ c κs. tt) (λ c. omega (arith, on c .within))
+    (λ c. omega (arith, on (c .before) .within)) loop-again same-length same-length-2 returns)

@@ -102,22 +102,6 @@ returns-2 c =
 pub run-spec : {M : Type 1} → statement M
 run-spec =
     tie.close
-    (tie.spec
-    Inv-loop
-    μ-loop
-    (λ c κs. tt)
-    (λ c κs. tt)
-    loop-holds
-    turn-requires
-    (λ c. turn-left (again (turned c)))
-    (λ c. omega (arith, turn-left (again (turned c))))
-    loop-again
-    same-length
-    same-length-2
-    same-length-3
-    returns
-    finish-requires
-    same-length-4
-    same-length-5
-    same-length-6
-    returns-2)
+    (tie.spec Inv-loop μ-loop (λ c κs. tt) (λ c κs. tt) loop-holds turn-requires (λ c. turn-left (again (turned c)))
+    (λ c. omega (arith, turn-left (again (turned c)))) loop-again same-length same-length-2 same-length-3 returns
+    finish-requires same-length-4 same-length-5 same-length-6 returns-2)

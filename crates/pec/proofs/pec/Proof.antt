@@ -71,15 +71,5 @@ returns c =
 pub pec-spec : {M : Type 1} → statement M
 pec-spec =
     tie.close
-    (tie.spec
-    Inv-loop
-    μ-loop
-    (λ c κs. search needs)
-    loop-holds
-    (λ c. search needs)
-    (λ c. omega (arith, place c))
-    (λ c. place c)
-    (λ c. search needs)
-    (λ c. search needs)
-    loop-again
-    returns)
+    (tie.spec Inv-loop μ-loop (λ c κs. search needs) loop-holds (λ c. search needs) (λ c. omega (arith, place c))
+    (λ c. place c) (λ c. search needs) (λ c. search needs) loop-again returns)

@@ -153,19 +153,6 @@ returns-7 c =
 pub decide-within-spec : {M : Type 1} → statement M
 decide-within-spec =
     tie.close
-    (tie.spec
-    (λ c κs. search needs)
-    returns
-    returns-2
-    (λ c κs. search needs)
-    returns-3
-    (λ c κs. search needs)
-    returns-4
-    (λ c κs. search needs)
-    returns-5
-    (λ c κs. search needs)
-    returns-6
-    sub-rule
-    cast-rule
-    (λ c κs. search needs)
-    returns-7)
+    (tie.spec (λ c κs. search needs) returns returns-2 (λ c κs. search needs) returns-3 (λ c κs. search needs)
+    returns-4 (λ c κs. search needs) returns-5 (λ c κs. search needs) returns-6 sub-rule cast-rule
+    (λ c κs. search needs) returns-7)

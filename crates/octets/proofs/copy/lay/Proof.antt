@@ -78,18 +78,5 @@ returns-2 c =
 pub lay-spec : {M : Type 1} → statement M
 lay-spec =
     tie.close
-    (tie.spec
-    Inv-loop
-    μ-loop
-    returns
-    sub-least
-    least-requires
-    loop-holds
-    shared-slice-read-out
-    add-out
-    slice-write-out
-    add-i
-    loop-less
-    loop-again
-    same-length
-    returns-2)
+    (tie.spec Inv-loop μ-loop returns sub-least least-requires loop-holds shared-slice-read-out add-out
+    slice-write-out add-i loop-less loop-again same-length returns-2)

@@ -12,11 +12,5 @@ returns c = rw (c .before .before .lay-four .ensures)
 pub lay-low-first-spec : {M : Type 1} → statement M
 lay-low-first-spec =
     tie.close
-    (tie.spec
-    (λ c. search needs)
-    (λ c. search needs)
-    (λ c. search needs)
-    (λ c. search needs)
-    (λ c κs. search needs)
-    (λ c. search needs)
-    returns)
+    (tie.spec (λ c. search needs) (λ c. search needs) (λ c. search needs) (λ c. search needs) (λ c κs. search needs)
+    (λ c. search needs) returns)

@@ -69,23 +69,6 @@ returns-9 c =
 pub read-within-spec : {M : Type 1} → statement M
 read-within-spec =
     tie.close
-    (tie.spec
-    (λ c κs. search needs)
-    returns
-    returns-2
-    returns-3
-    (λ c κs. search needs)
-    (λ c. search needs)
-    returns-4
-    (λ c κs. search needs)
-    returns-5
-    (λ c κs. search needs)
-    (λ c. search needs)
-    returns-6
-    (λ c. search needs)
-    returns-7
-    (λ c. search needs)
-    returns-8
-    (λ c. search needs)
-    (λ c κs. search needs)
-    returns-9)
+    (tie.spec (λ c κs. search needs) returns returns-2 returns-3 (λ c κs. search needs) (λ c. search needs) returns-4
+    (λ c κs. search needs) returns-5 (λ c κs. search needs) (λ c. search needs) returns-6 (λ c. search needs)
+    returns-7 (λ c. search needs) returns-8 (λ c. search needs) (λ c κs. search needs) returns-9)

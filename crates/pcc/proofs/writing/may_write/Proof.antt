@@ -43,13 +43,5 @@ returns-6 c = let s = sized (c .before .before) in sym (of-good _ _ _ _ (omega (
 pub may-write-spec : {M : Type 1} → statement M
 may-write-spec =
     tie.close
-    (tie.spec
-    (λ c κs. search needs)
-    returns
-    returns-2
-    (λ c κs. search needs)
-    returns-3
-    returns-4
-    (λ c. search needs)
-    returns-5
-    returns-6)
+    (tie.spec (λ c κs. search needs) returns returns-2 (λ c κs. search needs) returns-3 returns-4 (λ c. search needs)
+    returns-5 returns-6)

@@ -41,17 +41,6 @@ returns-2 c =
 pub from-ring-spec : {M : Type 1} → statement M
 from-ring-spec =
     tie.close
-    (tie.spec
-    (λ c κs. search needs)
-    (λ c. search needs)
-    (λ c κs. search needs)
-    (λ c κs. search needs)
-    (λ c. search needs)
-    returns
-    (λ c. search needs)
-    (λ c. search needs)
-    part-give-end
-    (λ c κs. search needs)
-    (λ c. search needs)
-    (λ c. search needs)
-    returns-2)
+    (tie.spec (λ c κs. search needs) (λ c. search needs) (λ c κs. search needs) (λ c κs. search needs)
+    (λ c. search needs) returns (λ c. search needs) (λ c. search needs) part-give-end (λ c κs. search needs)
+    (λ c. search needs) (λ c. search needs) returns-2)

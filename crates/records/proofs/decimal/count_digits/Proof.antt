@@ -34,13 +34,5 @@ returns c = (omega arith, omega (arith, decimal-most (c .before .before .before 
 pub count-digits-spec : {M : Type 1} → statement M
 count-digits-spec =
     tie.close
-    (tie.spec
-    Inv-loop
-    μ-loop
-    loop-holds
-    add-count
-    (λ c. omega arith)
-    loop-again
-    (λ c κs. omega arith)
-    add-result
+    (tie.spec Inv-loop μ-loop loop-holds add-count (λ c. omega arith) loop-again (λ c κs. omega arith) add-result
     returns)

@@ -55,17 +55,5 @@ returns c =
 pub lay-digits-spec : {M : Type 1} → statement M
 lay-digits-spec =
     tie.close
-    (tie.spec
-    Inv-loop
-    μ-loop
-    loop-holds
-    sub-left
-    (λ c. omega arith)
-    (λ c κs. search needs)
-    (λ c κs. search needs)
-    (λ c. omega arith)
-    loop-again
-    (λ c κs. search needs)
-    (λ c κs. search needs)
-    same-length
-    returns)
+    (tie.spec Inv-loop μ-loop loop-holds sub-left (λ c. omega arith) (λ c κs. search needs) (λ c κs. search needs)
+    (λ c. omega arith) loop-again (λ c κs. search needs) (λ c κs. search needs) same-length returns)

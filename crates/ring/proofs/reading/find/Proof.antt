@@ -116,16 +116,5 @@ returns-6 c =
 pub find-spec : {M : Type 1} → statement M
 find-spec =
     tie.close
-    (tie.spec
-    (λ c κs. search needs)
-    returns
-    add-least
-    returns-2
-    returns-3
-    (λ c κs. search needs)
-    returns-4
-    returns-5
-    filled-requires
-    (λ c κs. search needs)
-    judge-requires
-    returns-6)
+    (tie.spec (λ c κs. search needs) returns add-least returns-2 returns-3 (λ c κs. search needs) returns-4 returns-5
+    filled-requires (λ c κs. search needs) judge-requires returns-6)

@@ -81,11 +81,5 @@ returns-2 c =
 pub read-within-spec : {M : Type 1} → statement M
 read-within-spec =
     tie.close
-    (tie.spec
-    (λ c κs. search needs)
-    (λ c. search needs)
-    returns
-    next-requires
-    copy-out-requires
-    (λ c. search needs)
+    (tie.spec (λ c κs. search needs) (λ c. search needs) returns next-requires copy-out-requires (λ c. search needs)
     returns-2)

@@ -114,18 +114,5 @@ returns-6 c =
 pub judge-spec : {M : Type 1} → statement M
 judge-spec =
     tie.close
-    (tie.spec
-    (λ c κs. search needs)
-    returns
-    (λ c κs. search needs)
-    returns-2
-    returns-3
-    (λ c κs. search needs)
-    returns-4
-    add-whole
-    (λ c κs. search needs)
-    add-whole-2
-    room-requires
-    returns-5
-    next-requires
-    returns-6)
+    (tie.spec (λ c κs. search needs) returns (λ c κs. search needs) returns-2 returns-3 (λ c κs. search needs)
+    returns-4 add-whole (λ c κs. search needs) add-whole-2 room-requires returns-5 next-requires returns-6)

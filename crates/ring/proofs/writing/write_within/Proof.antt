@@ -54,11 +54,5 @@ returns-2 c =
 pub write-within-spec : {M : Type 1} → statement M
 write-within-spec =
     tie.close
-    (tie.spec
-    (λ c κs. search needs)
-    (λ c. search needs)
-    (λ c. search needs)
-    returns
-    fill-requires
-    (λ c. search needs)
+    (tie.spec (λ c κs. search needs) (λ c. search needs) (λ c. search needs) returns fill-requires (λ c. search needs)
     returns-2)

@@ -90,25 +90,6 @@ returns-10 c =
 pub read-within-spec : {M : Type 1} → statement M
 read-within-spec =
     tie.close
-    (tie.spec
-    (λ c κs. search needs)
-    returns
-    returns-2
-    returns-3
-    add-if4
-    returns-4
-    (λ c. search needs)
-    (λ c. search needs)
-    returns-5
-    (λ c. search needs)
-    returns-6
-    (λ c. search needs)
-    cast-if7
-    add-if7
-    returns-7
-    (λ c. search needs)
-    returns-8
-    (λ c κs. search needs)
-    returns-9
-    (λ c. search needs)
-    returns-10)
+    (tie.spec (λ c κs. search needs) returns returns-2 returns-3 add-if4 returns-4 (λ c. search needs)
+    (λ c. search needs) returns-5 (λ c. search needs) returns-6 (λ c. search needs) cast-if7 add-if7 returns-7
+    (λ c. search needs) returns-8 (λ c κs. search needs) returns-9 (λ c. search needs) returns-10)

@@ -47,13 +47,5 @@ returns-6 c = sym (good-number _ _ _ _ _ (omega (arith, tests, body (first (c .b
 pub may-write-spec : {M : Type 1} → statement M
 may-write-spec =
     tie.close
-    (tie.spec
-    (λ c κs. search needs)
-    returns
-    returns-2
-    returns-3
-    (λ c κs. search needs)
-    returns-4
-    add-if5
-    returns-5
+    (tie.spec (λ c κs. search needs) returns returns-2 returns-3 (λ c κs. search needs) returns-4 add-if5 returns-5
     returns-6)

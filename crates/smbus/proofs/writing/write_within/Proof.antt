@@ -35,12 +35,5 @@ returns-2 c =
 pub write-within-spec : {M : Type 1} → statement M
 write-within-spec =
     tie.close
-    (tie.spec
-    (λ c κs. search needs)
-    (λ c. search needs)
-    fill-requires
-    add-t15
-    (λ c. search needs)
-    (λ c. search needs)
-    returns
-    returns-2)
+    (tie.spec (λ c κs. search needs) (λ c. search needs) fill-requires add-t15 (λ c. search needs) (λ c. search needs)
+    returns returns-2)

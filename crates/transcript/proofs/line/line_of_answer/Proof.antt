@@ -16,11 +16,5 @@ returns-3 c = rw (c .before .answer3 .given .1)
 pub line-of-answer-spec : {M : Type 1} → statement M
 line-of-answer-spec =
     tie.close
-    (tie.spec
-    (λ c. search needs)
-    (λ c κs. search needs)
-    (λ c. search needs)
-    (λ c. search needs)
-    returns
-    returns-2
+    (tie.spec (λ c. search needs) (λ c κs. search needs) (λ c. search needs) (λ c. search needs) returns returns-2
     returns-3)

@@ -13,12 +13,5 @@ returns-3 c = rw (c .before .before .why2 .given .1, c .number2 .ensures)
 pub line-without-spec : {M : Type 1} → statement M
 line-without-spec =
     tie.close
-    (tie.spec
-    (λ c. search needs)
-    (λ c. search needs)
-    (λ c κs. search needs)
-    (λ c. search needs)
-    (λ c κs. search needs)
-    (λ c. search needs)
-    returns-2
-    returns-3)
+    (tie.spec (λ c. search needs) (λ c. search needs) (λ c κs. search needs) (λ c. search needs)
+    (λ c κs. search needs) (λ c. search needs) returns-2 returns-3)

@@ -92,23 +92,7 @@ returns-2 c =
 pub chunk-spec : {M : Type 1} → statement M
 chunk-spec =
     tie.close
-    (tie.spec
-    Inv-loop
-    μ-loop
-    (λ c. (along-start _ _ _ _, refl, refl))
-    (λ c. omega arith)
-    (λ c κs. tt)
-    (λ c. search needs)
-    (λ c. omega (arith, standing c .ends))
-    (λ c. omega arith)
-    part-frame-line-start
-    part-frame-line-end
-    (λ c κs. tt)
-    loop-less
-    loop-again
-    same-length
-    same-length-2
-    returns
-    same-length-3
-    same-length-4
-    returns-2)
+    (tie.spec Inv-loop μ-loop (λ c. (along-start _ _ _ _, refl, refl)) (λ c. omega arith) (λ c κs. tt)
+    (λ c. search needs) (λ c. omega (arith, standing c .ends)) (λ c. omega arith) part-frame-line-start
+    part-frame-line-end (λ c κs. tt) loop-less loop-again same-length same-length-2 returns same-length-3
+    same-length-4 returns-2)

@@ -12,9 +12,4 @@ returns c = rw (c .part .ensures, c .before .before .before .place-in .ensures)
 pub area-spec : {M : Type 1} → statement M
 area-spec =
     tie.close
-    (tie.spec
-    (λ c κs. search needs)
-    (λ c. search needs)
-    (λ c. search needs)
-    (λ c κs. search needs)
-    returns)
+    (tie.spec (λ c κs. search needs) (λ c. search needs) (λ c. search needs) (λ c κs. search needs) returns)

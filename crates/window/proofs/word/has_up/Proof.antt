@@ -13,12 +13,6 @@ told e = sym (ap hasUp e)
 pub has-up-spec : {M : Type 1} → statement M
 has-up-spec =
     tie.close
-    (tie.spec
-    (λ c. search needs)
-    (λ c. search needs)
-    (λ c. search needs)
-    (λ c. search needs)
-    (λ c. told (c .enum-told .given .1))
-    (λ c. told (c .enum-told2 .given .1))
-    (λ c. told (c .enum-told3 .given .1))
+    (tie.spec (λ c. search needs) (λ c. search needs) (λ c. search needs) (λ c. search needs)
+    (λ c. told (c .enum-told .given .1)) (λ c. told (c .enum-told2 .given .1)) (λ c. told (c .enum-told3 .given .1))
     (λ c. told (c .enum-told4 .given .1)))
