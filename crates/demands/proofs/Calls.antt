@@ -30,7 +30,7 @@ use Rattle.descriptor.proofs.read_descriptor.Reads as read-descriptor
 use Rattle.mctp.specs.Refusals.{outcomeNumber}
 use Rattle.slots.specs.Changes.{setUpRefusal, setUpOf}
 use Rattle.slots.proofs.set_up.Reads as set-up
-use Rattle.window.specs.Places.{setupOf, placeIn, areaOf}
+use Rattle.window.specs.Places.{refusalOf, placeIn, areaOf}
 use Rattle.window.specs.Words.{interfaceIn, storeRefusal, stored, storedPointer}
 use Rattle.window.proofs.refusal.Reads as window-refusal
 use Rattle.window.proofs.place_of.Reads as place-of
@@ -89,7 +89,7 @@ pub read-descriptor-is : (κs : Lfts 1) (a r e : _) → read-descriptor.Post κs
 read-descriptor-is κs a r e p = p
 
 pub window-refusal-is : (κs : Lfts 1) (a r e : _) → window-refusal.Post κs a r e → r
-    ≡ setupOf (length (a .0 .now)) (a .1 .0)
+    ≡ refusalOf (length (a .0 .now)) (a .1 .0)
 window-refusal-is κs a r e p = p
 
 pub place-of-is : (κs : Lfts 1) (a r e : _) → place-of.Post κs a r e → r

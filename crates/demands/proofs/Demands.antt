@@ -165,7 +165,7 @@ ring-not-written ring configured running read write p n e =
 -- DEMAND 2: THE LAYOUTS AND THE MESSAGE RULES
 --
 -- "Frames read and frames written follow the DMTF layouts": a good frame is the layout of its packet, and so is a
--- written one (`written-frame`).
+-- written one.
 pub good-frame-is-the-layout : (frame : List ℕ) (own : ℕ) (h : smbus.refusalOf 64 frame own ≡ 0)
     → frame ≡ frameOf own (smbus.sourceAddressOf 64 frame own) (smbus.packetOf 64 frame own)
 good-frame-is-the-layout = good.frame-layout 64

@@ -111,7 +111,7 @@ given-and-freed = demands.given-and-freed gathering empty wrong 20 (steps .not-n
 pub not-freed : freedOf 64 card 4 ≡ card
 not-freed = demands.not-freed card 4 (λ e. omega (arith, steps .no-slot))
 
--- the window of document 003's tables, worked out by hand
+-- the window of document 003's tables, written out
 pub cut-ring-is-never-1 : (readable running : Bool) (read write n : ℕ)
     → (taking.foundOf 64 (window.areaOf windowImage imageConfiguration B2h)
     (areaPlace imageConfiguration B2h .length) readable read write n ≡ taking.refused 1 → ⊥)

@@ -9,14 +9,14 @@ use Rattle.mmbi.specs.declared.interface.Flags.{Flags}
 use Rattle.mmbi.specs.Interface.{stateOf, mayRead}
 use Rattle.ring.specs.Round.{roundFrom}
 use Rattle.ring.specs.Reading as taking
-use Rattle.rack.specs.Arrivals.{Brought, packet, none, ringSays, ringBrings}
+use Rattle.rack.specs.Arrivals.{Brought, packet, none, foundBrings, ringBrings}
 
 -- what a ring arrival leaves in its output
 abbrev pub outputOf : Brought → List ℕ → List ℕ
 outputOf (packet p beside) out = fronted out p
 outputOf (none why) out = out
 
-by-answer : (found : taking.Found) (s out : List ℕ) → taking.outputAfter found s out ≡ outputOf (ringSays s found) out
+by-answer : (found : taking.Found) (s out : List ℕ) → taking.outputAfter found s out ≡ outputOf (foundBrings s found) out
 by-answer (taking.packet size next) s out = refl
 by-answer taking.empty s out = refl
 by-answer (taking.skipped number next) s out = refl

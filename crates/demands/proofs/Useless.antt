@@ -24,7 +24,7 @@ use Rattle.rack.specs.Arrivals.{Arrival, bySmbus, byPcc, byRing, Brought, Witho
 use Rattle.rack.specs.Answers.{given, nothing, AfterArrival, arrivedOf}
 use Rattle.transcript.specs.declared.state.State.{State}
 use Rattle.transcript.specs.State.{start, oneMore, withPacket}
-use Rattle.transcript.specs.Frame.{frameOf}
+use Rattle.transcript.specs.Frame.{afterFrame}
 use Rattle.transcript.specs.Taking as transcript
 use Rattle.demands.specs.Presenting.{arrival}
 use Rattle.demands.proofs.Numbers.{card, empty, packetWith}
@@ -38,7 +38,7 @@ unfolding transcript.run
 none-counted = refl
 
 one-counted : transcript.run start empty (literalFrame ∷ []) .state .packets ≡ 1
-unfolding transcript.run frameOf oneMore
+unfolding transcript.run afterFrame oneMore
 one-counted = ap (λ (c : Brought). withPacket (arrivedOf 64 card empty c .told) 0) literal-brought
 
 -- "One that refuses everything is shut out by 3's arrival on each path with 2's reading.": a good arrival is never

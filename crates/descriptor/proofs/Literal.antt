@@ -1,4 +1,4 @@
--- A window worked out by hand from Tables 1 to 4 of 003, since a definition and its code could be wrong alike.
+-- A window written out from Tables 1 to 4 of 003, since a definition and its code could be wrong alike.
 -- Assumes nothing.
 use mathlib.Core.Path.{_≡_, refl}
 use mathlib.Core.Bool.{true}

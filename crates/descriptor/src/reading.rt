@@ -7,6 +7,7 @@ ghost use mathlib.Core.Path.{_≡_};
 ghost use Rattle.descriptor.specs.Reading.{signatureRight, versionRight, typeRight, baseAt, configurationIn};
 ghost use Rattle.descriptor.specs.Reading.{describedIn, describedOf};
 
+// What reading gives: a configuration that the window can have, or the refusal.
 pub enum Configured {
     Checked(Configuration),
     Refused(Refusal),

@@ -68,11 +68,14 @@ fn tell(carried: Carried, packet: &[u8]) {
     match carried {
         Carried::Empty => text::put(b"empty"),
         Carried::Refused(why) => text::refused(why),
-        Carried::Skipped(why, next) => {
+        Carried::Skipped {
+            refusal: why,
+            next: next,
+        } => {
             text::refused(why);
             tell_next(next);
         }
-        Carried::Packet(size, next) => {
+        Carried::Packet { size, next } => {
             text::put(b"good, packet");
             text::show(packet, 0, size);
             tell_next(next);

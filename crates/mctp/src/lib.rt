@@ -1,4 +1,4 @@
-// What a packet is: endpoint IDs, keys, header fields, and the refusals by name and number.
+// What a packet is: endpoint IDs, sizes, keys, header fields, and the refusals by name and number.
 mod eid;
 mod packet;
 mod refusal;

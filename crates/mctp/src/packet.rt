@@ -1,4 +1,4 @@
-// The header of a packet, and the key under which its message is gathered.
+// A packet's size, its header, and the key under which its message is gathered.
 use crate::eid::Eid;
 ghost use mathlib.Core.Path.{_≡_};
 ghost use Rattle.mctp.specs.Key.{keyOf, headerOf, sameKey};
@@ -24,6 +24,7 @@ pub fn size_right(most: usize, size: usize) -> bool
     size - 4 <= most
 }
 
+// "a key (destination, source, tag owner, tag)"
 pub struct Key {
     pub destination: Eid,
     pub source: Eid,
@@ -31,6 +32,7 @@ pub struct Key {
     pub tag: u8,
 }
 
+// The fields of a packet's four header bytes.
 pub struct Header {
     pub version: u8,
     pub start: bool,
@@ -66,6 +68,7 @@ pub fn header_of(packet: &[u8]) -> Header
     }
 }
 
+// Whether two keys are one: all four fields are.
 pub fn same_key(a: Key, b: Key) -> bool
     ensures { λ r. ⌜ r ≡ sameKey a b ⌝ }
 {

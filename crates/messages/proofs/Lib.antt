@@ -3,4 +3,4 @@ pub mod Gathering
 pub mod Acceptance
 pub mod Counts
 pub mod Determined
-pub mod Said
+pub mod Contracts

@@ -69,24 +69,6 @@ pub fn state(flags: Flags) -> InterfaceState
     )
 }
 
-// One of four states, by one end's two flags.
-fn by_two(
-    up: bool,
-    reset: bool,
-    neither: InterfaceState,
-    asks: InterfaceState,
-    runs: InterfaceState,
-    both: InterfaceState,
-) -> InterfaceState
-    ensures { λ r. ⌜ r ≡ pick up (pick reset both runs) (pick reset asks neither) ⌝ }
-{
-    if up {
-        if reset { both } else { runs }
-    } else {
-        if reset { asks } else { neither }
-    }
-}
-
 // What document 01 calls transient: every state that it gives no name of its own.
 pub fn transient(s: InterfaceState) -> bool
     ensures { λ r. ⌜ r ≡ isTransient s ⌝ }
@@ -139,5 +121,23 @@ pub fn may_write(s: InterfaceState) -> bool
         InterfaceState::TemporaryTransition => false,
         InterfaceState::InitializationMismatch => false,
         InterfaceState::Unexpected => false,
+    }
+}
+
+// One of four states, by one end's two flags.
+fn by_two(
+    up: bool,
+    reset: bool,
+    neither: InterfaceState,
+    asks: InterfaceState,
+    runs: InterfaceState,
+    both: InterfaceState,
+) -> InterfaceState
+    ensures { λ r. ⌜ r ≡ pick up (pick reset both runs) (pick reset asks neither) ⌝ }
+{
+    if up {
+        if reset { both } else { runs }
+    } else {
+        if reset { asks } else { neither }
     }
 }

@@ -1,4 +1,5 @@
-// The MMBI interface (003): its state from four flags, and the words that hold pointers and flags.
+// The MMBI interface (003): its state from four flags, the words that hold pointers and flags, a ring's length and
+// pointers.
 mod interface;
 mod pointer;
 mod word;

@@ -1,5 +1,4 @@
 // The sizes of SMBus frames and packets.
-use crate::packets::front;
 use crate::text::refused;
 use crate::text::say;
 use crate::text::tell;
@@ -12,9 +11,9 @@ pub fn read(count: u8) {
     let mut space = [0u8; 74];
     octets::lay(&mut space, 0, b"\x40\x0F\x00\x23\x01\x09\x0A\xC8");
     octets::lay_byte(&mut space, 2, count);
-    let check = pec::pec(front(&space, size - 1));
+    let check = pec::pec(octets::part(&space, 0, size - 1));
     octets::lay_byte(&mut space, size - 1, check);
-    tell_read(front(&space, size));
+    tell_read(octets::part(&space, 0, size));
 }
 
 fn tell_read(frame: &[u8]) {
@@ -31,7 +30,7 @@ fn tell_read(frame: &[u8]) {
 pub fn write(size: usize) {
     let packet = [0u8; 69];
     let mut frame = [0u8; 74];
-    let written = smbus::write(&mut frame, front(&packet, size), 32, 17);
+    let written = smbus::write(&mut frame, octets::part(&packet, 0, size), 32, 17);
     match written {
         Written::Refused(why) => refused(why),
         Written::Frame(whole) => {

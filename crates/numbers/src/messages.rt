@@ -2,7 +2,6 @@
 use crate::answers::tell_after;
 use crate::answers::tell_answer;
 use crate::packets::after;
-use crate::packets::front;
 use crate::packets::give;
 
 // 16 packets that go on from one another, the first with start.
@@ -11,7 +10,7 @@ const BODIES: [u8; 16] = *b"\x88\x18\x28\x38\x08\x18\x28\x38\x08\x18\x28\x38\x08
 // A packet after so many bodies of 64 bytes.
 pub fn tell(held: usize, size: usize, byte: u8) {
     let bodies = BODIES;
-    tell_after(68, front(&bodies, held), size, byte);
+    tell_after(68, octets::part(&bodies, 0, held), size, byte);
 }
 
 // A packet after 16 bodies and the byte that was too many.

@@ -40,13 +40,5 @@ pub fn give(before: Receiver, memory: &mut Memory, size: usize, byte: u8) -> Giv
     let mut packet = [0u8; 68];
     octets::lay(&mut packet, 0, b"\x01\x09\x0A");
     octets::lay_byte(&mut packet, 3, byte);
-    receiver::give(before, memory, front(&packet, size))
-}
-
-// The first bytes, as many as asked for; all where there are fewer.
-pub fn front(bytes: &[u8], size: usize) -> &[u8] {
-    if size < bytes.len() {
-        return &bytes[0..size];
-    }
-    bytes
+    receiver::give(before, memory, octets::part(&packet, 0, size))
 }

@@ -1,4 +1,4 @@
--- Lists of bytes: every entry a byte, one list laid over another, a list put to an output's front.
+-- Lists of bytes: every entry a byte, a part, one list laid over another, a list put to an output's front.
 -- Assumes nothing.
 use Prim.Native.Nat.{ℕ, _<_}
 use mathlib.Core.List.{List, _++_}

@@ -1,4 +1,4 @@
--- How a definition chooses: by a test, one line a check.
+-- How a definition chooses: by a test, or between two bounds.
 -- Assumes nothing.
 use Prim.Native.Nat.{ℕ}
 use mathlib.Core.Bool.{Bool, true, false, _&&_}

@@ -37,14 +37,6 @@ pub fn word_high_first(s: &[u8], at: usize) -> u32
     )
 }
 
-// The number that four bytes make, the lowest given first.
-fn joined(a: u32, b: u32, c: u32, d: u32) -> u32
-    requires { ⌜ (a < 256) × (b < 256) × (c < 256) × (d < 256) ⌝ }
-    ensures { λ r. ⌜ r ≡ value (a ∷ b ∷ c ∷ d ∷ []) ⌝ }
-{
-    a + 256 * (b + 256 * (c + 256 * d))
-}
-
 // The word's four bytes laid over `out` from place `at` on, the lowest first.
 pub fn lay_low_first(out: &mut [u8], at: usize, w: u32)
     ensures { λ _. ⌜ now (out .exit) ≡ laid (now (out .entry)) at (wordBytes lowFirst w) ⌝ }
@@ -83,4 +75,12 @@ fn lay_four(out: &mut [u8], at: usize, a: u8, b: u8, c: u8, d: u8)
     lay_byte(out, at + 1, b);
     lay_byte(out, at + 2, c);
     lay_byte(out, at + 3, d);
+}
+
+// The number that four bytes make, the lowest given first.
+fn joined(a: u32, b: u32, c: u32, d: u32) -> u32
+    requires { ⌜ (a < 256) × (b < 256) × (c < 256) × (d < 256) ⌝ }
+    ensures { λ r. ⌜ r ≡ value (a ∷ b ∷ c ∷ d ∷ []) ⌝ }
+{
+    a + 256 * (b + 256 * (c + 256 * d))
 }

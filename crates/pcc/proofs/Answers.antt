@@ -15,7 +15,7 @@ use Rattle.pcc.specs.declared.answer.Carried.{Carried}
 use Rattle.pcc.specs.declared.answer.Carried.the-variants.{Packet, Refused}
 use Rattle.pcc.specs.Reading.{refusalOf, sizeOf, partOf, packetOf, notifyOf}
 use Rattle.pcc.specs.Answers.{numberRead, sizeRead, notifyRead}
-use Rattle.pcc.proofs.Readings.{Good, of-good, good-size}
+use Rattle.pcc.proofs.Readings.{Good, good-number, good-size}
 
 module _ (most : ℕ) (region : List ℕ) (id : ℕ) where
   -- the three promises of `read`
@@ -29,7 +29,7 @@ module _ (most : ℕ) (region : List ℕ) (id : ℕ) where
   pub says-good : Good most region id
       → Says (Packet (wordAt lowFirst region 8 - 4) (eqb (wordAt lowFirst region 4 % 2) 1))
   unfolding notifyOf
-  says-good g = let e = of-good most region id g in (sym e, (sym (good-size most region id e), rw e))
+  says-good g = let e = good-number most region id g in (sym e, (sym (good-size most region id e), rw e))
 
   -- a refused one gives no byte and a clear flag
   module _ (refused : refusalOf most region id ≡ 0 → ⊥) where

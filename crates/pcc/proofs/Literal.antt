@@ -1,4 +1,4 @@
--- A region worked out by hand from the tables (document 01, "PCC region"; DSP0292, Figure 3), written and read by
+-- A region written out from the tables (document 01, "PCC region"; DSP0292, Figure 3), written and read by
 -- computation, so that reading and writing are not only right by each other.
 -- Assumes nothing.
 use mathlib.Core.Path.{_≡_, refl}

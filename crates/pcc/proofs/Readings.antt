@@ -32,9 +32,9 @@ module _ (most : ℕ) (region : List ℕ) (id : ℕ) where
   unfolding refusalOf
   refused-at = first-failing (readOrder most region id) 0
 
-  pub of-good : Good most region id → refusalOf most region id ≡ 0
+  pub good-number : Good most region id → refusalOf most region id ≡ 0
   unfolding refusalOf
-  of-good g = none-failing (readOrder most region id) 0 (omega (arith, tests))
+  good-number g = none-failing (readOrder most region id) 0 (omega (arith, tests))
 
   module _ (e : refusalOf most region id ≡ 0) where
     pub good : Good most region id

@@ -16,7 +16,7 @@ use Rattle.mctp.specs.Packet.{bodyRight, sizeRight}
 use Rattle.pcc.specs.Layout.{signatureOf, flagsOf, lengthOf, command, regionOf, regionFor}
 use Rattle.pcc.specs.Reading.{refusalOf, sizeOf, partOf, packetOf, notifyOf}
 use Rattle.pcc.specs.Writing.{writeRefusal, writtenOf}
-use Rattle.pcc.proofs.Readings.{Good, of-good, good-size}
+use Rattle.pcc.proofs.Readings.{Good, good-number, good-size}
 use Rattle.pcc.proofs.Writings as writing
 
 flags-below : (b : Bool) → flagsOf b < 2 ^ 32
@@ -61,7 +61,7 @@ module _ (id : ℕ) (notify : Bool) (packet rest : List ℕ) where
     front-good = omega (arith, all, word-0 (w .subspace), word-12, word-8 (omega arith))
 
     pub front-number : refusalOf most region id ≡ 0
-    front-number = of-good most region id front-good
+    front-number = good-number most region id front-good
 
     pub front-packet : packetOf most region id ≡ packet
     front-packet =

@@ -32,9 +32,9 @@ module _ (most room id size : ℕ) where
   unfolding writeRefusal
   unwritten-at = first-failing (writeOrder most room id size) 0
 
-  pub of-good : Good most room id size → writeRefusal most room id size ≡ 0
+  pub good-number : Good most room id size → writeRefusal most room id size ≡ 0
   unfolding writeRefusal
-  of-good g = none-failing (writeOrder most room id size) 0 (omega (arith, tests))
+  good-number g = none-failing (writeOrder most room id size) 0 (omega (arith, tests))
 
   pub good : writeRefusal most room id size ≡ 0 → Good most room id size
   unfolding writeRefusal

@@ -37,7 +37,7 @@ use Rattle.ring.proofs.Rounds.{round-length}
 use Rattle.ring.proofs.Readings.{Good, good, good-short}
 use Rattle.rack.specs.declared.answer.Beside.the-variants.{Source, Notify}
 use Rattle.rack.specs.Why.{whySmbus, whyPcc, whyRing}
-use Rattle.rack.specs.Arrivals.{packet, none, without, smbusBrings, pccBrings, ringSays, ringBrings}
+use Rattle.rack.specs.Arrivals.{packet, none, without, smbusBrings, pccBrings, foundBrings, ringBrings}
 
 not-zero : (why : Refusal) {n : ℕ} → n ≡ numberOf why → n ≡ 0 → ⊥
 not-zero why e z = omega (arith, number-positive why)
@@ -77,7 +77,7 @@ module _ (most : ℕ) (r : List ℕ) (id : ℕ) (c : pcc.Carried) (says : pcc-sa
 
 -- the second, third and fourth kind of a ring's answer
 says-none : (s : List ℕ) (t : ring.Carried) → OneOf (1 ∷ 2 ∷ 3 ∷ []) (tagOf the-type t)
-    → ringSays s (foundIn t) ≡ none (without (whyRing t))
+    → foundBrings s (foundIn t) ≡ none (without (whyRing t))
 says-none s (ring-case.Packet size next) tag =
     ⊎-elim (λ h. absurd (omega arith)) (⊎-elim (λ h. absurd (omega arith)) (λ h. absurd (omega arith))) tag
 says-none s ring-case.Empty tag = refl
@@ -101,9 +101,9 @@ module _
 
       -- what the ring brings is what its answer says
       pub ring-brings : ringBrings most bytes configured flags read write out
-          ≡ ringSays (roundFrom read bytes) (foundIn u)
+          ≡ foundBrings (roundFrom read bytes) (foundIn u)
       unfolding ringBrings
-      ring-brings = ap (ringSays (roundFrom read bytes)) said
+      ring-brings = ap (foundBrings (roundFrom read bytes)) said
 
     pub ring-none : OneOf (1 ∷ 2 ∷ 3 ∷ []) (tagOf the-type t)
         → ringBrings most bytes configured flags read write out ≡ none (without (whyRing t))

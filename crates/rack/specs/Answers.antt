@@ -30,10 +30,10 @@ abbrev pub afterArrival : Received → List ℕ → AfterArrival
 afterArrival o m = record { told = tells (o .arrived); receiver = o .receiver; memory = m }
 
 -- what the message rules leave of a packet, with what the carrier also knows
-abbrev pub ruled : Beside → rules.Left → AfterArrival
-ruled beside l = record { told = given beside (l .said); receiver = l .receiver; memory = l .memory }
+abbrev pub withBeside : Beside → rules.Left → AfterArrival
+withBeside beside l = record { told = given beside (l .said); receiver = l .receiver; memory = l .memory }
 
 -- "a good arrival's packet goes to the message rules"; "A carrier's refusal never reaches the slots."
 abbrev pub arrivedOf : (most : ℕ) (r : Receiver) (m : List ℕ) → Brought → AfterArrival
-arrivedOf most r m (packet p beside) = ruled beside (rules.stepOf most r m p)
+arrivedOf most r m (packet p beside) = withBeside beside (rules.stepOf most r m p)
 arrivedOf most r m (none why) = record { told = nothing why; receiver = r; memory = m }

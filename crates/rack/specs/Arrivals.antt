@@ -62,16 +62,16 @@ pccBrings most region id =
     (none (refused (pcc.refusalOf most region id)))
 
 -- a ring that starts at the read pointer: "A good ring arrival gives the new read pointer"
-abbrev pub ringSays : List ℕ → ring.Found → Brought
-ringSays s (ring.packet size next) = packet (ringLayout.packetOf s) (Next next)
-ringSays s ring.empty = none empty
-ringSays s (ring.skipped number next) = none (skipped number next)
-ringSays s (ring.refused number) = none (refused number)
+abbrev pub foundBrings : List ℕ → ring.Found → Brought
+foundBrings s (ring.packet size next) = packet (ringLayout.packetOf s) (Next next)
+foundBrings s ring.empty = none empty
+foundBrings s (ring.skipped number next) = none (skipped number next)
+foundBrings s (ring.refused number) = none (refused number)
 
 unfoldable pub ringBrings : (most : ℕ) (bytes : List ℕ) (configured : ℕ) (flags : Flags) (read write : ℕ) (out : List ℕ)
     → Brought
 ringBrings most bytes configured flags read write out =
-    ringSays (roundFrom read bytes)
+    foundBrings (roundFrom read bytes)
     (ring.foundOf most bytes configured (mayRead (stateOf flags)) read write (length out))
 
 -- "The carrier's checks come first, all of them": what the carrier of an arrival makes of it

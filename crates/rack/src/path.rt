@@ -61,7 +61,7 @@ pub fn from_ring(
         (pointers .read) (pointers .write) (now (out .entry)) ⌝ }
 {
     let carried = ring::read(bytes, configured, flags, pointers, out);
-    let ring::Carried::Packet(size, next) = carried else {
+    let ring::Carried::Packet { size, next } = carried else {
         return no_packet(receiver, why::ring(carried));
     };
     give(receiver, memory, &out[0..size], Beside::Next(next))

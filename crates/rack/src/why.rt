@@ -25,9 +25,9 @@ pub fn ring(carried: ring::Carried) -> NoPacket
     ensures { λ r. ⌜ r ≡ whyRing carried ⌝ }
 {
     match carried {
-        ring::Carried::Packet(_, _) => NoPacket::Empty,
+        ring::Carried::Packet { size: _, next: _ } => NoPacket::Empty,
         ring::Carried::Empty => NoPacket::Empty,
-        ring::Carried::Skipped(refusal, next) => NoPacket::Skipped {
+        ring::Carried::Skipped { refusal, next } => NoPacket::Skipped {
             refusal: refusal,
             next: next,
         },

@@ -7,6 +7,7 @@ ghost use mathlib.Core.Path.{_≡_};
 ghost use Rattle.decision.specs.Rules.{planned};
 ghost use Rattle.receiver.specs.Step.{says, answerOf, left, carriedOut, stepOf};
 
+// What the message rules answer.
 pub enum Answer {
     Refused {
         refusal: Refusal,
@@ -28,6 +29,7 @@ pub struct Given {
     pub receiver: Receiver,
 }
 
+// One packet given: the answer and the receiver, with the memory changed in one slot at most.
 pub fn give(receiver: Receiver, memory: &mut [u8], packet: &[u8]) -> Given
     ensures { λ r. ⌜ left r (now (memory .exit)) ≡ stepOf 64 receiver (now (memory .entry)) (now (packet .entry)) ⌝ }
 {

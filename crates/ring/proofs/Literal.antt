@@ -1,4 +1,4 @@
--- Images worked out by hand from Table 6 of 003, against the definitions: writer and reader can't be wrong alike.
+-- Images written out from Table 6 of 003, against the definitions: writer and reader can't be wrong alike.
 -- Assumes nothing.
 use mathlib.Core.Path.{_≡_, refl}
 use mathlib.Core.Bool.{true}

@@ -1,4 +1,4 @@
--- Runs of writes and reads on one ring: what the laws "a good arrival" and "first in, first out" speak of.
+-- Runs of writes and reads on one ring: what the laws on a good arrival and on first in, first out speak of.
 -- Assumes nothing.
 use Prim.Native.Nat.{ℕ, _+_}
 use mathlib.Core.Bool.{Bool, true, _&&_}

@@ -3,12 +3,12 @@ use mctp::Refusal;
 
 // A ring as it was read.
 pub enum Carried {
-    // A packet: its size and the new read pointer.
-    Packet(usize, usize),
+    // Its size and the new read pointer.
+    Packet { size: usize, next: usize },
     // No packet is there.
     Empty,
-    // A packet that is not for us, 14 or 3, with the pointer after it.
-    Skipped(Refusal, usize),
+    // A packet of another kind (14) or of a wrong size (3), with the pointer after it.
+    Skipped { refusal: Refusal, next: usize },
     Refused(Refusal),
 }
 

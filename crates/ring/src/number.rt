@@ -1,4 +1,4 @@
-// The ring's numbers: what is filled, what is left, and the pointer after so many bytes.
+// The ring's numbers: what 1 and 12 ask, what is filled, what is left, and the pointer after so many bytes.
 ghost use mathlib.Core.Path.{_≡_};
 ghost use Prim.Native.Nat.{_+_, _≤_, _<_};
 ghost use Rattle.ring.specs.Numbers.{setUpRight, pointersRight, filledOf, roomOf, nextOf};

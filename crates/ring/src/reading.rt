@@ -38,8 +38,8 @@ pub fn read(
     )
 }
 
-// Reading with a largest body of the caller's.
-pub fn read_within(
+// Reading with the largest body as a number.
+fn read_within(
     most: usize,
     ring: &[u8],
     configured: usize,
@@ -54,7 +54,7 @@ pub fn read_within(
         (now (out .entry)) ⌝ }
 {
     let found = find(most, ring, configured, readable, read, write, out.len());
-    let Carried::Packet(size, _) = found else {
+    let Carried::Packet { size, next: _ } = found else {
         return found;
     };
     round::copy_out(ring, number::next(configured, read, 4), size, out);
@@ -114,14 +114,23 @@ fn judge(most: usize, length: usize, read: usize, filled: usize, header: u32) ->
     if whole < counted {
         return Carried::Refused(Refusal::BadPacket);
     }
-    let after = number::next(length, read, whole);
+    let next = number::next(length, read, whole);
     let kind = header % 16;
     if kind != 4 {
-        return Carried::Skipped(Refusal::OtherKind, after);
+        return Carried::Skipped {
+            refusal: Refusal::OtherKind,
+            next: next,
+        };
     }
     let size = whole - 4 - padding;
     if !mctp::size_right(most, size) {
-        return Carried::Skipped(Refusal::Size, after);
+        return Carried::Skipped {
+            refusal: Refusal::Size,
+            next: next,
+        };
     }
-    Carried::Packet(size, after)
+    Carried::Packet {
+        size: size,
+        next: next,
+    }
 }

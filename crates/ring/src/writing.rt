@@ -39,8 +39,8 @@ pub fn write(
     )
 }
 
-// Writing with a largest body of the caller's.
-pub fn write_within(
+// Writing with the largest body as a number.
+fn write_within(
     most: usize,
     ring: &mut [u8],
     configured: usize,

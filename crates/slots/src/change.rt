@@ -42,6 +42,18 @@ pub fn free(receiver: Receiver, slot: usize) -> Changed
     free_within(mctp::LARGEST_BODY, receiver, slot)
 }
 
+// The only write of a slot.
+pub fn with_state(receiver: Receiver, slot: usize, state: SlotState) -> Receiver
+    ensures { λ r. ⌜ r ≡ withState receiver slot state ⌝ }
+{
+    if slot < 4 {
+        let mut next = receiver;
+        next.slots[slot] = Slot { state: state };
+        return next;
+    }
+    receiver
+}
+
 fn free_within(most: usize, receiver: Receiver, slot: usize) -> Changed
     ensures number { λ r. ⌜ outcomeNumber (r .outcome) ≡ freeRefusal most receiver slot ⌝ }
     ensures receiver { λ r. ⌜ r .receiver ≡ freedOf most receiver slot ⌝ }
@@ -56,18 +68,6 @@ fn free_within(most: usize, receiver: Receiver, slot: usize) -> Changed
         outcome: Outcome::Refused(Refusal::Setup),
         receiver: receiver,
     }
-}
-
-// The only write of a slot.
-pub fn with_state(receiver: Receiver, slot: usize, state: SlotState) -> Receiver
-    ensures { λ r. ⌜ r ≡ withState receiver slot state ⌝ }
-{
-    if slot < 4 {
-        let mut next = receiver;
-        next.slots[slot] = Slot { state: state };
-        return next;
-    }
-    receiver
 }
 
 fn fresh_of(setup: Setup) -> Receiver

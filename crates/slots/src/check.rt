@@ -10,6 +10,7 @@ ghost use Rattle.slots.specs.Setup.{oursOf};
 ghost use Rattle.slots.specs.Slots.{hasKey};
 ghost use Rattle.slots.specs.State.{multiple, rightNumbers, rightSlot, clash, fourRight, fourApart, rightState};
 
+// Whether the stored state is one that 1 lets through.
 pub fn right(receiver: Receiver) -> bool
     ensures { λ r. ⌜ r ≡ rightState 64 receiver ⌝ }
 {

@@ -19,6 +19,7 @@ pub fn state_at(receiver: Receiver, slot: usize) -> SlotState
     SlotState::Free
 }
 
+// The slot that gathers for this key.
 pub fn slot_of(receiver: Receiver, key: Key) -> u8
     ensures { λ r. ⌜ r ≡ slotOf (receiver .slots) key ⌝ }
 {
@@ -31,6 +32,7 @@ pub fn slot_of(receiver: Receiver, key: Key) -> u8
     )
 }
 
+// The lowest slot that is free.
 pub fn lowest_free(receiver: Receiver) -> u8
     ensures { λ r. ⌜ r ≡ lowestFree (receiver .slots) 0 4 ⌝ }
 {

@@ -1,4 +1,4 @@
-// Reading a frame: one pass over it finds the packet or the refusal, and every question asks that pass.
+// Reading a frame: one pass over it finds the packet or the refusal, and each question on it asks that pass.
 use crate::answer::Carried;
 use mctp::LARGEST_BODY;
 use mctp::Refusal;

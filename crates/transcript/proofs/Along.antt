@@ -17,7 +17,7 @@ use Rattle.records.proofs.Walks.{walk-at-whole, joined-append}
 use Rattle.records.proofs.Lines.{put-is, after-is}
 use Rattle.transcript.specs.declared.state.State.{State}
 use Rattle.transcript.specs.declared.taking.Taken.{Taken}
-use Rattle.transcript.specs.Frame.{Ran, frameOf}
+use Rattle.transcript.specs.Frame.{Ran, afterFrame}
 use Rattle.transcript.specs.Taking.{behindText, run, chunkFrames, chunkRun}
 use Rattle.transcript.proofs.Frames.{line-fits, frames-more}
 use Rattle.transcript.proofs.Runs.{run-append}
@@ -78,7 +78,7 @@ module _ {s₀ : State} {m₀ input out₀ : List ℕ} {s : State} {m out : List
     frame = take (start + size - start) (drop start input)
 
     abbrev one : Ran
-    one = frameOf s m frame
+    one = afterFrame s m frame
 
     cut : frame ≡ take size (drop start input)
     cut = let e : start + size - start ≡ size = omega arith in rw e

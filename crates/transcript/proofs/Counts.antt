@@ -19,7 +19,7 @@ use Rattle.records.specs.Line.{lastLine}
 use Rattle.records.proofs.Walks.{arrivalsIn}
 use Rattle.transcript.specs.declared.state.State.{State}
 use Rattle.transcript.specs.State.{ownAddress, start, oneMore, withPacket}
-use Rattle.transcript.specs.Frame.{frameOf}
+use Rattle.transcript.specs.Frame.{afterFrame}
 use Rattle.transcript.specs.Taking.{run, runOn}
 use Rattle.transcript.specs.Last.{transcriptOf}
 
@@ -36,11 +36,11 @@ more-is n h = rw (lt-ltb n 18446744073709551615 h)
 pub run-arrivals : (s : State) (m : List ℕ) (frames : List (List ℕ))
     → s .arrivals + length frames ≤ 18446744073709551615
     → run s m frames .state .arrivals ≡ s .arrivals + length frames
-unfolding run frameOf
+unfolding run afterFrame
 run-arrivals s m [] h = omega arith
 run-arrivals s m (f ∷ frames) h =
     let one = more-is (s .arrivals) (omega arith) in
-    run-arrivals (frameOf s m f .state) (frameOf s m f .memory) frames (omega arith) ∙ omega arith
+    run-arrivals (afterFrame s m f .state) (afterFrame s m f .memory) frames (omega arith) ∙ omega arith
 
 -- "Packets counts arrivals in which a packet was found": of one frame
 found : (s : State) (m p : List ℕ) (beside : Beside) (why : carrier.Without) (good : Bool)
@@ -57,13 +57,13 @@ one-or-none false = omega arith
 -- and of some frames
 pub run-packets : (s : State) (m : List ℕ) (frames : List (List ℕ)) → s .packets + length frames ≤ 18446744073709551615
     → run s m frames .state .packets ≡ s .packets + packetsIn frames
-unfolding run frameOf packetsIn carrier.smbusBrings
+unfolding run afterFrame packetsIn carrier.smbusBrings
 run-packets s m [] h = omega arith
 run-packets s m (f ∷ frames) h =
-    let one : frameOf s m f .state .packets ≡ s .packets + pick (eqb (refusalOf 64 f ownAddress) 0) 1 0 =
+    let one : afterFrame s m f .state .packets ≡ s .packets + pick (eqb (refusalOf 64 f ownAddress) 0) 1 0 =
     found s m _ _ _ (eqb (refusalOf 64 f ownAddress) 0) (omega arith) in
     let most = one-or-none (eqb (refusalOf 64 f ownAddress) 0) in
-    run-packets (frameOf s m f .state) (frameOf s m f .memory) frames (omega arith) ∙ omega arith
+    run-packets (afterFrame s m f .state) (afterFrame s m f .memory) frames (omega arith) ∙ omega arith
 
 -- the last line tells the whole records, and those of them that hold a packet
 pub transcript-counts : (m input : List ℕ) → arrivalsIn input ≤ 18446744073709551615

@@ -10,12 +10,12 @@ use borrow.Author.Tests.{le-leb, lt-leb}
 use lib.ListN.{length, length-append}
 use Rattle.records.proofs.Lines.{line-most}
 use Rattle.transcript.specs.declared.state.State.{State}
-use Rattle.transcript.specs.Frame.{frameOf}
+use Rattle.transcript.specs.Frame.{afterFrame}
 use Rattle.transcript.specs.Taking.{run, chunkFrames}
 
 -- a frame's line is no longer than the room that a chunk asks for
-pub line-fits : (s : State) (m f : List ℕ) → length (frameOf s m f .text) ≤ 86
-unfolding frameOf
+pub line-fits : (s : State) (m f : List ℕ) → length (afterFrame s m f .text) ≤ 86
+unfolding afterFrame
 line-fits s m f = line-most _ _
 
 module _ (s : State) (m : List ℕ) (room : ℕ) where
@@ -30,7 +30,7 @@ module _ (s : State) (m : List ℕ) (room : ℕ) where
 
   pub frames-more : (f : List ℕ) (frames : List (List ℕ)) → 86 ≤ room
       → chunkFrames room s m (f ∷ frames)
-      ≡ f ∷ chunkFrames (room - length (frameOf s m f .text)) (frameOf s m f .state) (frameOf s m f .memory) frames
+      ≡ f ∷ chunkFrames (room - length (afterFrame s m f .text)) (afterFrame s m f .state) (afterFrame s m f .memory) frames
   unfolding chunkFrames
   frames-more f frames h = rw (le-leb 86 room h)
 
@@ -53,7 +53,7 @@ took room s m (f ∷ frames) =
     by-cases (decLt room 86)
     (λ (h : room < 86). took-none room s m (f ∷ frames) (frames-full s m room (f ∷ frames) h))
     (λ (h : room < 86 → ⊥).
-    let r = frameOf s m f in
+    let r = afterFrame s m f in
     let t = took (room - length (r .text)) (r .state) (r .memory) frames in
     let is = frames-more s m room f frames (omega arith) in
     record {

@@ -6,7 +6,7 @@ use Prim.Native.Nat.{ℕ}
 use Rattle.records.specs.Record.{recordsOf, restOf}
 use Rattle.records.proofs.Walks.{records-append}
 use Rattle.transcript.specs.declared.state.State.{State}
-use Rattle.transcript.specs.Frame.{Ran, frameOf}
+use Rattle.transcript.specs.Frame.{Ran, afterFrame}
 use Rattle.transcript.specs.Taking.{behindText, run, runOn}
 
 -- one text in front, and another in front of it
@@ -21,8 +21,8 @@ pub run-append : (s : State) (m : List ℕ) (a b : List (List ℕ))
 unfolding run
 run-append s m [] b = refl
 run-append s m (f ∷ a) b =
-    ap (behindText (frameOf s m f .text)) (run-append (frameOf s m f .state) (frameOf s m f .memory) a b)
-    ∙ behind-both (frameOf s m f .text) _ _
+    ap (behindText (afterFrame s m f .text)) (run-append (afterFrame s m f .state) (afterFrame s m f .memory) a b)
+    ∙ behind-both (afterFrame s m f .text) _ _
 
 -- however the input is cut: the rest of the first piece goes on with the second behind it
 pub run-cut : (s : State) (m a b : List ℕ)

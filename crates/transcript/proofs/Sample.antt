@@ -24,7 +24,7 @@ use Rattle.records.specs.Line.{named, pair, lineBytes, lastLine}
 use Rattle.records.proofs.Samples.{records}
 use Rattle.transcript.specs.declared.state.State.{State}
 use Rattle.transcript.specs.State.{start, oneMore}
-use Rattle.transcript.specs.Frame.{Ran, frameOf}
+use Rattle.transcript.specs.Frame.{Ran, afterFrame}
 use Rattle.transcript.specs.Taking.{run}
 use Rattle.transcript.specs.Last.{transcriptOf}
 
@@ -56,17 +56,17 @@ module _ (m : List ℕ) (sized : length m ≡ 4096) where
         text = lineBytes 1 (Done 0 1 false);
       }
 
-  one : frameOf start m (0x40 ∷ 0x0F ∷ 0x06 ∷ 0x23 ∷ 0x01 ∷ 0x09 ∷ 0x0A ∷ 0xC8 ∷ 0x00 ∷ 0x71 ∷ []) ≡ first
-  unfolding frameOf stepOf oneMore first
+  one : afterFrame start m (0x40 ∷ 0x0F ∷ 0x06 ∷ 0x23 ∷ 0x01 ∷ 0x09 ∷ 0x0A ∷ 0xC8 ∷ 0x00 ∷ 0x71 ∷ []) ≡ first
+  unfolding afterFrame stepOf oneMore first
   one = rw (found, sized, done)
 
   two : (s : State) (n : List ℕ)
-      → frameOf s n (0x00 ∷ []) ≡ record {
+      → afterFrame s n (0x00 ∷ []) ≡ record {
         state = record { receiver = s .receiver; arrivals = oneMore (s .arrivals); packets = s .packets };
         memory = n;
         text = lineBytes (oneMore (s .arrivals)) (Refused 3);
       }
-  unfolding frameOf
+  unfolding afterFrame
   two s n = rw short
 
   pub sample : transcriptOf m (0x0A ∷ 0x40 ∷ 0x0F ∷ 0x06 ∷ 0x23 ∷ 0x01 ∷ 0x09 ∷ 0x0A ∷ 0xC8 ∷ 0x00 ∷ 0x71 ∷ 0x01 ∷ 0x00

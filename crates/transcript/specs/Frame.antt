@@ -30,5 +30,5 @@ counted s left =
     }
 
 -- one frame's arrival at our own address
-unfoldable pub frameOf : State → (memory frame : List ℕ) → Ran
-frameOf s m frame = counted s (arrivedOf 64 (s .receiver) m (smbusBrings 64 frame ownAddress))
+unfoldable pub afterFrame : State → (memory frame : List ℕ) → Ran
+afterFrame s m frame = counted s (arrivedOf 64 (s .receiver) m (smbusBrings 64 frame ownAddress))

@@ -7,7 +7,7 @@ use lib.ListN.{length}
 use Rattle.octets.specs.Choice.{pick}
 use Rattle.records.specs.Record.{recordsOf}
 use Rattle.transcript.specs.declared.state.State.{State}
-use Rattle.transcript.specs.Frame.{Ran, frameOf}
+use Rattle.transcript.specs.Frame.{Ran, afterFrame}
 
 -- some bytes in front of a run's
 abbrev pub behindText : List ℕ → Ran → Ran
@@ -17,7 +17,7 @@ behindText text r = record { state = r .state; memory = r .memory; text = text +
 unfoldable pub run : State → (memory : List ℕ) → List (List ℕ) → Ran
 run s m [] = record { state = s; memory = m; text = [] }
 run s m (frame ∷ frames) =
-    let r = frameOf s m frame in
+    let r = afterFrame s m frame in
     behindText (r .text) (run (r .state) (r .memory) frames)
 
 -- the whole records of some bytes, run
@@ -28,7 +28,7 @@ runOn s m bytes = run s m (recordsOf bytes)
 unfoldable pub chunkFrames : (room : ℕ) → State → (memory : List ℕ) → List (List ℕ) → List (List ℕ)
 chunkFrames room s m [] = []
 chunkFrames room s m (frame ∷ frames) =
-    let r = frameOf s m frame in
+    let r = afterFrame s m frame in
     pick (leb 86 room) (frame ∷ chunkFrames (room - length (r .text)) (r .state) (r .memory) frames) []
 
 abbrev pub chunkRun : (room : ℕ) → State → (memory input : List ℕ) → Ran

@@ -4,7 +4,7 @@ use crate::state;
 use crate::state::State;
 ghost use mathlib.Core.Path.{_≡_};
 ghost use Rattle.records.specs.Line.{put, placeAfter};
-ghost use Rattle.transcript.specs.Frame.{frameOf};
+ghost use Rattle.transcript.specs.Frame.{afterFrame};
 
 // The state after a frame, and the place behind its line.
 pub struct Framed {
@@ -20,12 +20,12 @@ pub fn frame_line(
     output: &mut [u8],
     at: usize,
 ) -> Framed
-    ensures state { λ r. ⌜ r .state ≡ frameOf before (now (memory .entry)) (now (frame .entry)) .state ⌝ }
-    ensures memory { λ _. ⌜ now (memory .exit) ≡ frameOf before (now (memory .entry)) (now (frame .entry)) .memory ⌝ }
+    ensures state { λ r. ⌜ r .state ≡ afterFrame before (now (memory .entry)) (now (frame .entry)) .state ⌝ }
+    ensures memory { λ _. ⌜ now (memory .exit) ≡ afterFrame before (now (memory .entry)) (now (frame .entry)) .memory ⌝ }
     ensures behind { λ r. ⌜ r .behind ≡ placeAfter (now (output .entry)) at
-        (frameOf before (now (memory .entry)) (now (frame .entry)) .text) ⌝ }
+        (afterFrame before (now (memory .entry)) (now (frame .entry)) .text) ⌝ }
     ensures output { λ _. ⌜ now (output .exit) ≡ put (now (output .entry)) at
-        (frameOf before (now (memory .entry)) (now (frame .entry)) .text) ⌝ }
+        (afterFrame before (now (memory .entry)) (now (frame .entry)) .text) ⌝ }
 {
     let receiver = before.receiver;
     let received = rack::from_smbus(frame, state::ADDRESS, receiver, memory);

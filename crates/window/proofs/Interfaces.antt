@@ -19,7 +19,7 @@ unfolding wordWhere cleared wordOf
 pointer-aligned s c p = omega arith
 
 -- refused with 1: the pointers are 0 and the flags clear
-pub look-refused : (s : List ℕ) (c : Configuration) → allowed (length s) c ≡ false
+pub interface-refused : (s : List ℕ) (c : Configuration) → allowed (length s) c ≡ false
     → interfaceIn s c
     ≡ record {
       flags = flagsOf false false false false;
@@ -29,4 +29,4 @@ pub look-refused : (s : List ℕ) (c : Configuration) → allowed (length s) c �
       «controller_ready» = false;
     }
 unfolding interfaceIn wordWhere cleared wordOf
-look-refused s c e = rw e
+interface-refused s c e = rw e

@@ -1,4 +1,4 @@
--- The words of a window worked out by hand from Tables 3 and 4 of 003, since reader and writer could be wrong alike.
+-- The words of a window written out from Tables 3 and 4 of 003, since reader and writer could be wrong alike.
 -- Assumes nothing.
 use mathlib.Core.Path.{_≡_, refl}
 use mathlib.Core.Bool.{Bool, true, false}
@@ -17,12 +17,12 @@ use Rattle.descriptor.proofs.Literal.{descriptorImage, rosImage, windowImage, i
 use Rattle.window.specs.declared.word.Pointer.{Pointer}
 use Rattle.window.specs.declared.word.Pointer.the-variants.{H2bWrite, B2hRead, B2hWrite, H2bRead}
 use Rattle.window.specs.declared.word.Interface.{Interface}
-use Rattle.window.specs.Places.{setupOf, placeIn, areaOf}
+use Rattle.window.specs.Places.{refusalOf, placeIn, areaOf}
 use Rattle.window.specs.Words.{cleared, wordWhere, interfaceIn, storeRefusal, stored, storedPointer}
 
 -- 1 in a window one byte too short; nothing lies there then
-pub image-setup : map (λ (n : ℕ). setupOf n imageConfiguration) (339 ∷ 340 ∷ []) ≡ 1 ∷ 0 ∷ []
-unfolding setupOf allowed inside clear
+pub image-setup : map (λ (n : ℕ). refusalOf n imageConfiguration) (339 ∷ 340 ∷ []) ≡ 1 ∷ 0 ∷ []
+unfolding refusalOf allowed inside clear
 image-setup = refl
 
 pub image-nowhere : placeIn 339 imageConfiguration H2b ≡ record { offset = 0; length = 0 }

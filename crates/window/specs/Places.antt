@@ -12,8 +12,8 @@ use Rattle.descriptor.specs.declared.configuration.Configuration.{Configuration
 use Rattle.descriptor.specs.declared.configuration.Area.{Area}
 
 -- "1 .. setup": the configuration is none that document 01's list lets a window of this size have
-unfoldable pub setupOf : ℕ → Configuration → ℕ
-setupOf window c = pick (allowed window c) 0 1
+unfoldable pub refusalOf : ℕ → Configuration → ℕ
+refusalOf window c = pick (allowed window c) 0 1
 
 -- where an area lies; a place of no bytes where refused
 unfoldable pub placeIn : ℕ → Configuration → Area → Place

@@ -5,11 +5,11 @@ use descriptor::Configuration;
 use descriptor::Place;
 ghost use mathlib.Core.Path.{_≡_};
 ghost use lib.ListN.{length};
-ghost use Rattle.window.specs.Places.{setupOf, placeIn, areaOf};
+ghost use Rattle.window.specs.Places.{refusalOf, placeIn, areaOf};
 
 // 1 where the configuration is not one that this window can have, else 0.
 pub fn refusal(window: &[u8], c: Configuration) -> u8
-    ensures { λ r. ⌜ r ≡ setupOf (length (now (window .entry))) c ⌝ }
+    ensures { λ r. ⌜ r ≡ refusalOf (length (now (window .entry))) c ⌝ }
 {
     if descriptor::is_allowed(window.len(), c) {
         0

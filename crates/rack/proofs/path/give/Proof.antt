@@ -1,14 +1,14 @@
 -- `rack::path::give` meets its contract: the message rules' own promise, with what the carrier knows beside it.
 -- Assumes nothing.
 use mathlib.Core.Path.{ap}
-use Rattle.rack.specs.Answers.{ruled}
+use Rattle.rack.specs.Answers.{withBeside}
 use borrow.Author.Needs.{needs}
 use Rattle.rack.proofs.path.give.Statement.{statement}
 use Rattle.rack.proofs.path.give.Tie as tie
 
 returns : tie.Need-returns
 returns c =
-    ap (ruled (c .before .before .before .before .before .before .before .args .beside))
+    ap (withBeside (c .before .before .before .before .before .before .before .args .beside))
     (c .before .before .before .give .ensures)
 
 pub give-spec : {M : Type 1} → statement M

@@ -2,13 +2,13 @@
 -- it.
 -- Assumes nothing.
 use mathlib.Core.Path.{refl}
-use Rattle.transcript.specs.Frame.{frameOf}
+use Rattle.transcript.specs.Frame.{afterFrame}
 use borrow.Author.Needs.{needs}
 use Rattle.transcript.proofs.frame.frame_line.Statement.{statement}
 use Rattle.transcript.proofs.frame.frame_line.Tie as tie
 
 returns : tie.Need-returns
-unfolding frameOf
+unfolding afterFrame
 returns c =
     let counted = c .before .before .before .before .before in
     let arrived = counted .before .before .before .before .before .from-smbus in
