@@ -42,6 +42,16 @@ pub record Literals : Type 0 where
       ∷ decided 64 full 4096 (1 ∷ 9 ∷ 7 ∷ 0x48 ∷ 0 ∷ [])
       ∷ []
       ≡ map refuse (1 ∷ 2 ∷ 3 ∷ 15 ∷ 16 ∷ 17 ∷ 17 ∷ [])
+  -- "message memory of exactly 4,096 lent bytes"
+  pub memories : map (λ (n : ℕ). decided 64 card n (packet 0xC8 1 0)) (4095 ∷ 4096 ∷ 4097 ∷ [])
+      ≡ refuse 2 ∷ whole ∷ refuse 2 ∷ []
+  -- "low four bits version, 1"
+  pub versions : map (λ (b : ℕ). decided 64 card 4096 (b ∷ 9 ∷ 10 ∷ 0xC8 ∷ 0 ∷ [])) (0 ∷ 1 ∷ 2 ∷ 0x10 ∷ 0xF1 ∷ [])
+      ≡ refuse 15 ∷ whole ∷ refuse 15 ∷ refuse 15 ∷ whole ∷ []
+  -- "20 if sequence is not last + 1 modulo 4": 0, 1, 2 and 3 behind 0
+  pub sequences : map (decided 64 full 4096)
+      (packet 0x0D 64 0 ∷ packet 0x1D 64 0 ∷ packet 0x2D 64 0 ∷ packet 0x3D 64 0 ∷ [])
+      ≡ release 1 20 ∷ put 1 64 false (Gathering (key 9 10 true 5) 1 64 128) ∷ release 1 20 ∷ release 1 20 ∷ []
   -- "a body of 1 to 64 bytes"
   pub sizes : map (λ (n : ℕ). decided 64 card 4096 (packet 0xC8 n 0)) (0 ∷ 1 ∷ 64 ∷ 65 ∷ [])
       ≡ refuse 3 ∷ whole ∷ whole ∷ refuse 3 ∷ []
@@ -90,6 +100,9 @@ unfolding decided ruled onStart onFollow gathered after
 literals =
     record {
       order = refl;
+      memories = refl;
+      versions = refl;
+      sequences = refl;
       sizes = refl;
       destinations = refl;
       sources = refl;

@@ -16,7 +16,8 @@ abbrev pub outputOf : Brought → List ℕ → List ℕ
 outputOf (packet p beside) out = fronted out p
 outputOf (none why) out = out
 
-by-answer : (found : taking.Found) (s out : List ℕ) → taking.outputAfter found s out ≡ outputOf (foundBrings s found) out
+by-answer : (found : taking.Found) (s out : List ℕ)
+    → taking.outputAfter found s out ≡ outputOf (foundBrings s found) out
 by-answer (taking.packet size next) s out = refl
 by-answer taking.empty s out = refl
 by-answer (taking.skipped number next) s out = refl

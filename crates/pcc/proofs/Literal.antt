@@ -2,7 +2,7 @@
 -- computation, so that reading and writing are not only right by each other.
 -- Assumes nothing.
 use mathlib.Core.Path.{_≡_, refl}
-use mathlib.Core.Bool.{true}
+use mathlib.Core.Bool.{true, false}
 use mathlib.Core.List.{List, [], _∷_}
 use Prim.Native.Nat.{ℕ}
 use lib.ListN.{replicate, take}
@@ -45,6 +45,11 @@ literal-notify = refl
 pub literal-written : writtenOf 64 (replicate 84 0xFF) 3 true literalPacket ≡ literalRegion
 unfolding writtenOf writeRefusal fronted regionOf wordBytes literalRegion
 literal-written = refl
+
+-- and without notify: "the others are .. 0 in writing"
+pub literal-quiet : writtenOf 64 (replicate 84 0xFF) 3 false literalPacket ≡ laid literalRegion 4 (0x00 ∷ [])
+unfolding laid writtenOf writeRefusal fronted regionOf wordBytes literalRegion
+literal-quiet = refl
 
 -- "lengths 8, 9, 72, 73 in PCC"
 pub length-8 : refusalOf 64 (lengthened 8) 3 ≡ 3

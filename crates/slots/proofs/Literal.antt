@@ -68,6 +68,7 @@ pub record Literals : Type 0 where
   -- "Held is a positive multiple of the unit, at most 1,024"
   pub helds : map (λ (h : ℕ). may-hold (gathering 0 h)) (64 ∷ 1024 ∷ 0 ∷ 63 ∷ 65 ∷ 1088 ∷ [])
       ≡ true ∷ true ∷ false ∷ false ∷ false ∷ false ∷ []
+  pub helds-by-one : map (λ (h : ℕ). may-hold (slot (key 9 10 true 0) 0 1 h)) (1024 ∷ 1025 ∷ []) ≡ true ∷ false ∷ []
   -- "sequence is 0 to 3, tag 0 to 7"
   pub sequences : map (λ (q : ℕ). may-hold (slot (key 9 10 true 0) q 64 64)) (0 ∷ 3 ∷ 4 ∷ []) ≡ true ∷ true ∷ false ∷ []
   pub tags : map (λ (t : ℕ). may-hold (gathering t 64)) (0 ∷ 7 ∷ 8 ∷ []) ≡ true ∷ true ∷ false ∷ []
@@ -102,6 +103,7 @@ literals =
       own-kept = refl;
       units = refl;
       helds = refl;
+      helds-by-one = refl;
       sequences = refl;
       tags = refl;
       destinations = refl;

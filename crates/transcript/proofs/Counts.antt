@@ -1,6 +1,6 @@
 -- The two counts of a run: its frames, and those of them that hold a packet.
 -- Assumes nothing.
-use mathlib.Core.Path.{_≡_, _∙_}
+use mathlib.Core.Path.{_≡_, refl, _∙_}
 use mathlib.Core.Bool.{Bool, true, false}
 use mathlib.Core.List.{List, [], _∷_, _++_}
 use Prim.Native.Nat.{ℕ, _+_, _≤_, _<_}
@@ -27,6 +27,11 @@ use Rattle.transcript.specs.Last.{transcriptOf}
 unfoldable pub packetsIn : List (List ℕ) → ℕ
 packetsIn [] = 0
 packetsIn (frame ∷ frames) = pick (eqb (refusalOf 64 frame ownAddress) 0) 1 0 + packetsIn frames
+
+-- a count of 64 bits stops at its last number
+pub stops : oneMore 18446744073709551615 ≡ 18446744073709551615
+unfolding oneMore
+stops = refl
 
 -- a count that does not stop
 more-is : (n : ℕ) → n < 18446744073709551615 → oneMore n ≡ n + 1

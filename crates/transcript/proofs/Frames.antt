@@ -30,7 +30,8 @@ module _ (s : State) (m : List ℕ) (room : ℕ) where
 
   pub frames-more : (f : List ℕ) (frames : List (List ℕ)) → 86 ≤ room
       → chunkFrames room s m (f ∷ frames)
-      ≡ f ∷ chunkFrames (room - length (afterFrame s m f .text)) (afterFrame s m f .state) (afterFrame s m f .memory) frames
+      ≡ f ∷ chunkFrames (room - length (afterFrame s m f .text)) (afterFrame s m f .state)
+      (afterFrame s m f .memory) frames
   unfolding chunkFrames
   frames-more f frames h = rw (le-leb 86 room h)
 

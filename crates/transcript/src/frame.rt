@@ -21,7 +21,8 @@ pub fn frame_line(
     at: usize,
 ) -> Framed
     ensures state { λ r. ⌜ r .state ≡ afterFrame before (now (memory .entry)) (now (frame .entry)) .state ⌝ }
-    ensures memory { λ _. ⌜ now (memory .exit) ≡ afterFrame before (now (memory .entry)) (now (frame .entry)) .memory ⌝ }
+    ensures memory { λ _. ⌜ now (memory .exit)
+        ≡ afterFrame before (now (memory .entry)) (now (frame .entry)) .memory ⌝ }
     ensures behind { λ r. ⌜ r .behind ≡ placeAfter (now (output .entry)) at
         (afterFrame before (now (memory .entry)) (now (frame .entry)) .text) ⌝ }
     ensures output { λ _. ⌜ now (output .exit) ≡ put (now (output .entry)) at

@@ -1,131 +1,55 @@
--- `decision::decision::decide_within` meets its contract: check by check, then the rules.
+-- `decision::decision::decide_within` meets its contract: the checks, then the rules.
 -- Assumes nothing.
-use mathlib.Core.Path.{_≡_, sym, ap, _∙_}
-use mathlib.Core.Bool.{true}
+use mathlib.Core.Path.{_≡_, refl, sym, ap, _∙_}
+use mathlib.Core.Bool.{Bool, true, false}
 use Prim.Native.Nat.{_+_, _≤_}
 use native.Mathlib.Omega.{arith}
-use lib.Dec.{eqb}
 use lib.ListN.{length, length-drop}
-use borrow.Author.Tests.{not-true, not-false, eq-eqb, ne-eqb}
+use Rattle.octets.specs.Checks.{firstFailing}
+use Rattle.octets.proofs.Checks.{all-hold}
+use Rattle.mctp.specs.declared.refusal.Outcome.{Outcome}
 use Rattle.octets.proofs.Choice.{within-bounds}
-use Rattle.mctp.specs.declared.packet.Header.{Header}
-use Rattle.mctp.specs.Eid.{endpointEid}
-use Rattle.mctp.specs.Packet.{sizeRight, versionOf, destinationOf, sourceOf}
-use Rattle.mctp.specs.Key.{headerOf, keyOf}
-use Rattle.slots.specs.Setup.{oursOf}
-use Rattle.slots.specs.State.{rightState}
+use Rattle.mctp.specs.Packet.{bodyOf}
+use Rattle.mctp.specs.Key.{headerOf}
+use Rattle.slots.specs.declared.state.SlotState.the-variants.{Free}
 use Rattle.slots.proofs.States.{most-bounds}
-use Rattle.decision.specs.Decision.{decided}
+use Rattle.decision.specs.Rules.{Decision, refuse, release, put, ruled}
+use Rattle.decision.specs.Decision.{checkOrder, unlessRefused, decided}
 use borrow.Author.Needs.{needs}
 use Rattle.decision.proofs.decision.decide_within.Statement.{statement}
 use Rattle.decision.proofs.decision.decide_within.Tie as tie
 
--- where the call began, seen from behind check 3
-abbrev began : tie.Else3 → tie.Start
-began c = c .before .before .before .before .before .before
+-- a decision that no check makes
+abbrev none : Decision
+none = put 0 0 false Free
 
--- and that place, seen from behind the checks 15, 16 and 17
-abbrev past15 : tie.Else4 → tie.Else3
-past15 c = c .before .before .before .before
+abbrev isPut : Decision → Bool
+isPut (refuse n) = false
+isPut (release slot n) = false
+isPut (put slot at again then) = true
 
-abbrev past16 : tie.Else5 → tie.Else3
-past16 c = past15 (c .before .before)
+-- where the call began, seen from behind the header
+abbrev began : tie.After-header-of → tie.Start
+began c = c .before .before .before .before .before
 
-abbrev past17 : tie.Else6 → tie.Else3
-past17 c = past16 (c .before .before)
+-- no check fails there
+good : (c : tie.After-header-of) (d : Decision) → let a = began c .args in
+    firstFailing (checkOrder (a .most) (a .receiver) (a .size) (a .packet .now)) d ≡ d
+good c d =
+    c .before .before .before .check .ensures d
+    ∙ ap (λ (o : Outcome). unlessRefused o d) (c .before .enum-told .given .1)
 
--- what each check let through
-right : (c : tie.Else1) → let a = c .before .before .before .args in rightState (a .most) (a .receiver) ≡ true
-right c = sym (c .before .right-within .ensures) ∙ not-false _ (c .if1 .left)
-
-sized : (c : tie.Else3) → let a = began c .args in (rightState (a .most) (a .receiver) ≡ true)
-    × (eqb (a .size) 4096 ≡ true) × (sizeRight (a .most) (length (a .packet .now)) ≡ true)
-sized c = (
-  right (c .before .before .before),
-  eq-eqb _ _ (c .before .before .if2 .left),
-  sym (c .before .size-right .ensures) ∙ not-false _ (c .if3 .left),
-)
-
-version : (c : tie.Else4) → eqb (versionOf (began (past15 c) .args .packet .now)) 1 ≡ true
-unfolding headerOf
-version c =
-    eq-eqb _ _ (sym (ap (λ (h : Header). h .version) (c .before .before .before .header-of .ensures)) ∙ c .if4 .left)
-
-ours : (c : tie.After-ours) → let a = began (past15 (c .before)) .args in
-    c .ours .result ≡ oursOf (a .receiver .setup) (destinationOf (a .packet .now))
-unfolding headerOf keyOf
-ours c =
-    c .ours .ensures
-    ∙ ap (λ (h : Header). oursOf (began (past15 (c .before)) .args .receiver .setup) (h .key .destination .0))
-    (c .before .before .before .before .header-of .ensures)
-
-source : (c : tie.After-is-endpoint) → c .is-endpoint .result
-    ≡ endpointEid (sourceOf (began (past16 (c .before)) .args .packet .now))
-unfolding headerOf keyOf
-source c =
-    c .is-endpoint .ensures
-    ∙ ap (λ (h : Header). endpointEid (h .key .source .0))
-    (c .before .before .before .before .before .before .header-of .ensures)
-
-returns : tie.Need-returns
-unfolding decided
-returns c = rw (sym (c .before .right-within .ensures) ∙ not-true _ (c .if1 .taken))
-
-returns-2 : tie.Need-returns-2
-unfolding decided
-returns-2 c = rw (right (c .before), ne-eqb _ _ (c .if2 .taken))
-
-returns-3 : tie.Need-returns-3
-unfolding decided
-returns-3 c =
-    rw (
-      right (c .before .before .before),
-      eq-eqb _ _ (c .before .before .if2 .left),
-      sym (c .before .size-right .ensures) ∙ not-true _ (c .if3 .taken),
-    )
-
-returns-4 : tie.Need-returns-4
-unfolding decided headerOf
-returns-4 c =
-    let s = sized (c .before .before .before .before) in
-    rw (
-      s .0,
-      s .1,
-      s .2,
-      sym (ap (λ (h : Header). h .version) (c .before .before .before .header-of .ensures)),
-      ne-eqb _ _ (c .if4 .taken),
-    )
-
-returns-5 : tie.Need-returns-5
-unfolding decided
-returns-5 c =
-    let s = sized (past15 (c .before .before)) in
-    rw (s .0, s .1, s .2, version (c .before .before), sym (ours (c .before)) ∙ not-true _ (c .if5 .taken))
-
-returns-6 : tie.Need-returns-6
-unfolding decided
-returns-6 c =
-    let s = sized (past16 (c .before .before)) in
-    let not-ours = c .before .before in
-    rw (
-      s .0,
-      s .1,
-      s .2,
-      version (not-ours .before .before),
-      sym (ours (not-ours .before)) ∙ not-false _ (not-ours .if5 .left),
-      sym (source (c .before)) ∙ not-true _ (c .if6 .taken),
-    )
-
--- a packet of the right size has a body of at most 246 bytes
-bounds : (c : tie.Else6) → let a = began (past17 c) .args in (5 ≤ length (a .packet .now))
+-- so that the packet has a body of at most 246 bytes
+bounds : (c : tie.After-header-of) → let a = began c .args in (5 ≤ length (a .packet .now))
     × (length (a .packet .now) ≤ 250)
 bounds c =
-    let a = began (past17 c) .args in
-    let s = sized (past17 c) in
+    let a = began c .args in
+    let held = all-hold isPut (checkOrder (a .most) (a .receiver) (a .size) (a .packet .now)) none refl
+    (ap isPut (good c none)) in
     omega (
       arith,
-      within-bounds 5 (4 + a .most) (length (a .packet .now)) (s .2),
-      most-bounds (a .most) (a .receiver) (s .0),
+      within-bounds 5 (4 + a .most) (length (a .packet .now)) (held .1 .1 .0),
+      most-bounds (a .most) (a .receiver) (held .0),
     )
 
 sub-rule : tie.Need-sub-rule
@@ -134,25 +58,22 @@ sub-rule c = omega (arith, bounds c)
 cast-rule : tie.Need-cast-rule
 cast-rule c = omega (arith, bounds c)
 
-returns-7 : tie.Need-returns-7
+returns : tie.Need-returns
 unfolding decided
-returns-7 c =
+returns c =
+    let a = c .before .before .before .before .before .args in
+    let d = ruled (a .receiver .slots) (headerOf (a .packet .now)) (length (bodyOf (a .packet .now))) in
+    sym (c .before .before .before .check .ensures d
+    ∙ ap (λ (o : Outcome). unlessRefused o d) (c .before .checked .given .1))
+
+returns-2 : tie.Need-returns-2
+unfolding decided
+returns-2 c =
     let last = c .before in
-    let s = sized (past17 last) in
-    rw (
-      s .0,
-      s .1,
-      s .2,
-      version (last .before .before .before .before),
-      sym (ours (last .before .before .before)) ∙ not-false _ (last .before .before .if5 .left),
-      sym (source (last .before)) ∙ not-false _ (last .if6 .left),
-      length-drop 4 (began (past17 last) .args .packet .now),
-      sym (last .before .before .before .before .before .before .before .header-of .ensures),
-    ) (c .rule .ensures)
+    rw (good last _, length-drop 4 (began last .args .packet .now), sym (last .header-of .ensures)) (c .rule .ensures)
 
 pub decide-within-spec : {M : Type 1} → statement M
 decide-within-spec =
     tie.close
-    (tie.spec (λ c κs. search needs) returns returns-2 (λ c κs. search needs) returns-3 (λ c κs. search needs)
-    returns-4 (λ c κs. search needs) returns-5 (λ c κs. search needs) returns-6 sub-rule cast-rule
-    (λ c κs. search needs) returns-7)
+    (tie.spec (λ c κs. search needs) (λ c. search needs) (λ c. search needs) (λ c κs. search needs) sub-rule cast-rule
+    (λ c κs. search needs) returns returns-2)
