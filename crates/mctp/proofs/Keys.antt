@@ -1,26 +1,16 @@
 -- Keys: the test on two keys is equality, and what a header's fields can be.
 -- Assumes nothing.
-use mathlib.Core.Path.{_≡_, refl, sym}
+use mathlib.Core.Path.{_≡_, refl}
 use mathlib.Core.Bool.{Bool, true, false, Bool·beq, _&&_}
 use mathlib.Core.List.{List}
 use Prim.Native.Nat.{ℕ, _<_}
 use native.Mathlib.Omega.{arith}
 use borrow.Author.Tests.{eqb-true, eq-eqb}
 use lib.Dec.{eqb}
-use Rattle.octets.proofs.Choice.{both}
+use Rattle.octets.proofs.Choice.{both, beq-true, beq-refl}
 use Rattle.mctp.specs.declared.packet.Key.{Key}
 use Rattle.mctp.specs.Packet.{sequenceOf, tagOf}
 use Rattle.mctp.specs.Key.{sameKey}
-
-beq-true : (a b : Bool) → Bool·beq a b ≡ true → a ≡ b
-beq-true true true e = refl
-beq-true true false e = sym e
-beq-true false true e = e
-beq-true false false e = refl
-
-beq-refl : (a : Bool) → Bool·beq a a ≡ true
-beq-refl true = refl
-beq-refl false = refl
 
 -- the test holds of equal keys
 pub same-key-refl : (k : Key) → sameKey k k ≡ true

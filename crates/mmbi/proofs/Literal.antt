@@ -3,8 +3,12 @@
 -- Assumes nothing.
 use mathlib.Core.Path.{_≡_, refl}
 use mathlib.Core.Bool.{Bool, true, false}
-use mathlib.Core.List.{List, [], _∷_, map}
+use mathlib.Core.List.{List, [], _∷_, _++_, map}
 use Prim.Native.Nat.{ℕ}
+use Rattle.mmbi.specs.declared.change.Act.{Act}
+use Rattle.mmbi.specs.declared.change.Act.the-variants.{SetUp, ClearUp, SetReset, ClearReset, ClearBoth}
+use Rattle.mmbi.specs.declared.change.Change.{Change}
+use Rattle.mmbi.specs.declared.change.Change.the-variants.{Nothing, Host, Controller}
 use Rattle.mmbi.specs.declared.interface.Flags.{Flags}
 use Rattle.mmbi.specs.declared.interface.InterfaceState.the-variants.{InitializationCompleted}
 use Rattle.mmbi.specs.declared.interface.InterfaceState.the-variants.{ResetRequestByController}
@@ -13,8 +17,10 @@ use Rattle.mmbi.specs.declared.interface.InterfaceState.the-variants.{Tr
 use Rattle.mmbi.specs.declared.interface.InterfaceState.the-variants.{TemporaryTransition, InitializationMismatch}
 use Rattle.mmbi.specs.declared.interface.InterfaceState.the-variants.{Unexpected}
 use Rattle.mmbi.specs.declared.word.Word.{Word}
+use Rattle.mmbi.specs.Changes.{changedFlags, changedWord}
 use Rattle.mmbi.specs.Interface.{stateOf}
 use Rattle.mmbi.specs.Words.{wordOf, numberOf}
+use Rattle.mmbi.proofs.States.{digits}
 
 -- the words: bit 0 alone, bit 1 alone, four bytes that differ, every bit but bit 1, every bit of 16 but bit 0
 abbrev numbers : List ℕ
@@ -71,3 +77,26 @@ pub ends-apart :
     ∷ []
 unfolding stateOf
 ends-apart = refl
+
+-- every change of 1010, and of 0101: nothing; then the host's, and then the controller's, UP set and cleared, RST set
+-- and cleared, both cleared
+abbrev acts : List Act
+acts = SetUp ∷ ClearUp ∷ SetReset ∷ ClearReset ∷ ClearBoth ∷ []
+
+abbrev changes : List Change
+changes = Nothing ∷ map Host acts ++ map Controller acts
+
+pub each-change :
+    map (λ (c : Change). digits (changedFlags c (ends true false true false))) changes
+    ++ map (λ (c : Change). digits (changedFlags c (ends false true false true))) changes
+    ≡ 10 ∷ 10 ∷ 8 ∷ 11 ∷ 10 ∷ 8 ∷ 10 ∷ 2 ∷ 14 ∷ 10 ∷ 2 ∷ 5 ∷ 7 ∷ 5 ∷ 5 ∷ 4 ∷ 4 ∷ 13 ∷ 5 ∷ 5 ∷ 1 ∷ 1 ∷ []
+each-change = refl
+
+-- and of a word with its pointer, bit 1 alone set, and bit 0 alone
+pub each-word :
+    map (λ (act : Act). numberOf (changedWord act (wordOf 0xFFFFFFFE))) acts
+    ++ map (λ (act : Act). numberOf (changedWord act (wordOf 0x01020305))) acts
+    ≡ 0xFFFFFFFE ∷ 0xFFFFFFFC ∷ 0xFFFFFFFF ∷ 0xFFFFFFFE ∷ 0xFFFFFFFC ∷ 0x01020307 ∷ 0x01020305 ∷ 0x01020305
+    ∷ 0x01020304 ∷ 0x01020304 ∷ []
+unfolding changedWord wordOf numberOf
+each-word = refl

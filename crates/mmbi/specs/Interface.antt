@@ -1,6 +1,6 @@
 -- The state of the interface (003, Table 5; document 01, "MMBI descriptor, state and ring").
 -- Assumes nothing.
-use mathlib.Core.Bool.{Bool, true, false}
+use mathlib.Core.Bool.{Bool, Bool·beq, true, false, _&&_}
 use Rattle.mmbi.specs.declared.interface.Flags.{Flags}
 use Rattle.mmbi.specs.declared.interface.InterfaceState.{InterfaceState}
 use Rattle.mmbi.specs.declared.interface.InterfaceState.the-variants.{InitializationInProgress}
@@ -44,6 +44,30 @@ askedByHost = flagsOf true false true true
 
 abbrev pub askedByController : Flags
 askedByController = flagsOf true true true false
+
+-- "1000 initialization completed .. 1111 reset acknowledged"
+abbrev pub completed : Flags
+completed = flagsOf true false false false
+
+abbrev pub acknowledged : Flags
+acknowledged = flagsOf true true true true
+
+-- on the way from one to the other: "Transitioning to Initialization" (0111), of the "Temporary Transition States" 0100,
+-- "Initialization in Progress" (0000)
+abbrev pub transitioning : Flags
+transitioning = flagsOf false true true true
+
+abbrev pub hostCleared : Flags
+hostCleared = flagsOf false true false false
+
+abbrev pub allClear : Flags
+allClear = flagsOf false false false false
+
+-- the same flags, all four
+abbrev pub sameFlags : Flags → Flags → Bool
+sameFlags f g =
+    Bool·beq (f .«controller_up») (g .«controller_up») && Bool·beq (f .«controller_reset») (g .«controller_reset»)
+    && Bool·beq (f .«host_up») (g .«host_up») && Bool·beq (f .«host_reset») (g .«host_reset»)
 
 -- "State from the four flags (B_UP, B_RST, H_UP, H_RST)"
 unfoldable pub stateOf : Flags → InterfaceState

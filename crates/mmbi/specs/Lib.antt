@@ -1,3 +1,4 @@
 pub mod Interface
 pub mod Words
 pub mod Pointers
+pub mod Changes

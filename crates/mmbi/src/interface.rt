@@ -1,7 +1,7 @@
 // The state of the interface, from the four flags of both ends (Table 5 of 003).
 ghost use mathlib.Core.Path.{_≡_};
 ghost use Rattle.octets.specs.Choice.{pick};
-ghost use Rattle.mmbi.specs.Interface.{stateOf, isTransient, mayRead, mayWrite};
+ghost use Rattle.mmbi.specs.Interface.{sameFlags, stateOf, isTransient, mayRead, mayWrite};
 
 // B_UP, B_RST, H_UP and H_RST.
 pub struct Flags {
@@ -9,6 +9,65 @@ pub struct Flags {
     pub controller_reset: bool,
     pub host_up: bool,
     pub host_reset: bool,
+}
+
+// The flag states that the reset handshake goes through: 0000, 0100, 0111, 1000, 1010, 1011, 1110 and 1111.
+impl Flags {
+    pub const ALL_CLEAR: Flags = Flags {
+        controller_up: false,
+        controller_reset: false,
+        host_up: false,
+        host_reset: false,
+    };
+
+    pub const HOST_CLEARED: Flags = Flags {
+        controller_up: false,
+        controller_reset: true,
+        host_up: false,
+        host_reset: false,
+    };
+
+    pub const TRANSITIONING: Flags = Flags {
+        controller_up: false,
+        controller_reset: true,
+        host_up: true,
+        host_reset: true,
+    };
+
+    pub const COMPLETED: Flags = Flags {
+        controller_up: true,
+        controller_reset: false,
+        host_up: false,
+        host_reset: false,
+    };
+
+    pub const NORMAL_RUNTIME: Flags = Flags {
+        controller_up: true,
+        controller_reset: false,
+        host_up: true,
+        host_reset: false,
+    };
+
+    pub const ASKED_BY_HOST: Flags = Flags {
+        controller_up: true,
+        controller_reset: false,
+        host_up: true,
+        host_reset: true,
+    };
+
+    pub const ASKED_BY_CONTROLLER: Flags = Flags {
+        controller_up: true,
+        controller_reset: true,
+        host_up: true,
+        host_reset: false,
+    };
+
+    pub const ACKNOWLEDGED: Flags = Flags {
+        controller_up: true,
+        controller_reset: true,
+        host_up: true,
+        host_reset: true,
+    };
 }
 
 // The names of Table 5.
@@ -67,6 +126,16 @@ pub fn state(flags: Flags) -> InterfaceState
             InterfaceState::ResetAcked,
         ),
     )
+}
+
+// Whether these are the same flags, all four.
+pub fn same_flags(a: Flags, b: Flags) -> bool
+    ensures { λ r. ⌜ r ≡ sameFlags a b ⌝ }
+{
+    (a.controller_up == b.controller_up)
+        & (a.controller_reset == b.controller_reset)
+        & (a.host_up == b.host_up)
+        & (a.host_reset == b.host_reset)
 }
 
 // What document 01 calls transient: every state that it gives no name of its own.
