@@ -5,13 +5,12 @@ use mathlib.Core.Path.{_≡_, refl, ap, sym, subst, _∙_}
 use mathlib.Core.Bool.{Bool, true, false, _&&_, and-assoc, and-self, false≢true}
 use mathlib.Core.List.{List}
 use mathlib.Core.Logic.{_⊎_, inl, inr, ⊎-elim, dite}
-use Prim.Native.Nat.{ℕ, _+_, _≤_}
+use Prim.Native.Nat.{ℕ, _+_, _%_, _^_, _≤_, _<_}
 use native.Mathlib.Decide.{ℕ-discrete}
 use native.Mathlib.Omega.{arith}
 use borrow.Author.Tests.{eq-eqb, ne-eqb}
 use lib.Dec.{eqb}
 use lib.ListN.{length}
-use Rattle.octets.specs.Bytes.{part}
 use Rattle.octets.specs.Choice.{pick}
 use Rattle.octets.specs.Words.{highFirst, wordAt, wordBytes}
 use Rattle.octets.proofs.Checks.{none-failing, all-hold}
@@ -59,6 +58,70 @@ points-into-ring B2hRead = refl
 points-into-ring B2hWrite = refl
 points-into-ring H2bRead = refl
 
+-- a ring is clear of both structures
+pub ring-clear : (window : ℕ) (c : Configuration) (ring : Area) → isRing ring ≡ true → Allowed window c
+    → Clear c (areaPlace c ring)
+ring-clear window c B2h r a = a .b2h-clear
+ring-clear window c H2b r a = a .h2b-clear
+ring-clear window c Ros r a = absurd (false≢true r)
+ring-clear window c Rws r a = absurd (false≢true r)
+
+pub beside : (c : Configuration) (p : Pointer) (ring : Area) → Clear c (areaPlace c ring)
+    → (wordPlace c p + 4 ≤ areaPlace c ring .offset) ⊎ (endOf (areaPlace c ring) ≤ wordPlace c p)
+beside c H2bWrite ring k = ⊎-elim (λ (h : _). inr h) (λ (h : _). inl (omega arith)) (k .rws)
+beside c B2hRead ring k = ⊎-elim (λ (h : _). inr (omega arith)) (λ (h : _). inl (omega arith)) (k .rws)
+beside c B2hWrite ring k = ⊎-elim (λ (h : _). inr h) (λ (h : _). inl (omega arith)) (k .ros)
+beside c H2bRead ring k = ⊎-elim (λ (h : _). inr (omega arith)) (λ (h : _). inl (omega arith)) (k .ros)
+
+-- a word laid where its pointer is held, whatever that pointer is
+module _ (s : List ℕ) (c : Configuration) (p : Pointer) (w : Word) where
+  abbrev n : ℕ
+  n = numberOf (cleared p w)
+
+  -- the window keeps its length
+  pub with-word-length : length (withWord s c p w) ≡ length s
+  with-word-length = laid-length s (wordPlace c p) (wordBytes highFirst n)
+
+  -- a word that does not overlap it stays
+  pub with-word-keeps-others : (q : Pointer)
+      → (wordPlace c p + 4 ≤ wordPlace c q) ⊎ (wordPlace c q + 4 ≤ wordPlace c p)
+      → wordIn (withWord s c p w) c q ≡ wordIn s c q
+  unfolding wordWhere
+  with-word-keeps-others q h =
+      rw (
+        with-word-length,
+        laid-word-beside highFirst s (wordPlace c p) (wordBytes highFirst n) (wordPlace c q)
+        (rw (word-length highFirst n) h),
+      )
+
+  module _ (ok : allowed (length s) c ≡ true) where
+    word-laid : wordIn (withWord s c p w) c p ≡ cleared p (wordOf n)
+    unfolding wordWhere
+    word-laid =
+        rw (
+          with-word-length,
+          ok,
+          laid-word highFirst s (wordPlace c p) n (word-fits (length s) c p (allowed-facts (length s) c ok))
+          (number-below (cleared p w)),
+        )
+
+    -- the word reads back, where its pointer is a multiple of 4 of 32 bits
+    pub with-word-back : w .pointer % 4 ≡ 0 → w .pointer < 2 ^ 32 → wordIn (withWord s c p w) c p ≡ cleared p w
+    unfolding cleared
+    with-word-back fours below =
+        word-laid ∙ ap (cleared p) (word-back (cleared p w) fours below) ∙ cleared-twice p w
+
+    -- every byte of a ring stays
+    pub with-word-keeps-rings : (ring : Area) → isRing ring ≡ true
+        → areaOf (withWord s c p w) c ring ≡ areaOf s c ring
+    unfolding areaOf placeIn
+    with-word-keeps-rings ring r =
+        let q = areaPlace c ring in
+        rw (with-word-length, ok)
+        (laid-beside s (wordPlace c p) (wordBytes highFirst n) (q .offset) (q .length)
+        (rw (word-length highFirst n)
+        (beside c p ring (ring-clear (length s) c ring r (allowed-facts (length s) c ok)))))
+
 -- nothing is refused of a pointer that an allowed configuration's ring can have, and of no other
 module _ (window : ℕ) (c : Configuration) (p : Pointer) (at : ℕ) where
   abbrev ring : ℕ
@@ -85,7 +148,7 @@ module _ (s : List ℕ) (c : Configuration) (p : Pointer) (w : Word) where
   stored-length = kept (eqb number 0)
     where
       kept : (b : Bool) → length (pick b (withWord s c p w) s) ≡ length s
-      kept true = laid-length s (wordPlace c p) (wordBytes highFirst (numberOf (cleared p w)))
+      kept true = with-word-length s c p w
       kept false = refl
 
   -- where refused nothing is stored
@@ -109,26 +172,13 @@ module _ (s : List ℕ) (c : Configuration) (p : Pointer) (w : Word) where
     unfolding stored
     stored-laid = rw (eq-eqb number 0 good)
 
-    number-stored : wordAt highFirst (stored s c p w) (wordPlace c p) ≡ numberOf (cleared p w)
-    number-stored =
-        rw stored-laid
-        (laid-word highFirst s (wordPlace c p) (numberOf (cleared p w)) (word-fits (length s) c p facts)
-        (number-below (cleared p w)))
-
-    word-stored : wordIn (stored s c p w) c p ≡ cleared p (wordOf (numberOf (cleared p w)))
-    unfolding wordWhere cleared
-    word-stored = rw (stored-length, ok, number-stored)
-
     -- a word that is stored reads back
     pub stored-back : wordIn (stored s c p w) c p ≡ cleared p w
-    unfolding cleared
     stored-back =
         let pointer = store-facts (length s) c p (w .pointer) good .1 in
         let right = ring-right (length s) c (pointsInto p) (points-into-ring p) facts in
         let most = length-facts (areaPlace c (pointsInto p) .length) right .high in
-        word-stored
-        ∙ ap (cleared p) (word-back (cleared p w) (pointer .fours) (omega (arith, pointer .below, most)))
-        ∙ cleared-twice p w
+        rw stored-laid (with-word-back s c p w ok (pointer .fours) (omega (arith, pointer .below, most)))
 
 -- a pointer stored alone
 module _ (s : List ℕ) (c : Configuration) (p : Pointer) (at : ℕ) where
@@ -161,49 +211,18 @@ module _ (s : List ℕ) (c : Configuration) (p : Pointer) (at : ℕ) where
       (cleared-twice p (wordOf (pick (allowed (length s) c) (wordAt highFirst s (wordPlace c p)) 0))) in
       stored-back s c p (pointing held at) good ∙ (λ i. record { pointer = at; bit1 = bit1 i; bit0 = held .bit0 })
 
--- a ring is clear of both structures
-pub ring-clear : (window : ℕ) (c : Configuration) (ring : Area) → isRing ring ≡ true → Allowed window c
-    → Clear c (areaPlace c ring)
-ring-clear window c B2h r a = a .b2h-clear
-ring-clear window c H2b r a = a .h2b-clear
-ring-clear window c Ros r a = absurd (false≢true r)
-ring-clear window c Rws r a = absurd (false≢true r)
-
-pub beside : (c : Configuration) (p : Pointer) (ring : Area) → Clear c (areaPlace c ring)
-    → (wordPlace c p + 4 ≤ areaPlace c ring .offset) ⊎ (endOf (areaPlace c ring) ≤ wordPlace c p)
-beside c H2bWrite ring k = ⊎-elim (λ (h : _). inr h) (λ (h : _). inl (omega arith)) (k .rws)
-beside c B2hRead ring k = ⊎-elim (λ (h : _). inr (omega arith)) (λ (h : _). inl (omega arith)) (k .rws)
-beside c B2hWrite ring k = ⊎-elim (λ (h : _). inr h) (λ (h : _). inl (omega arith)) (k .ros)
-beside c H2bRead ring k = ⊎-elim (λ (h : _). inr (omega arith)) (λ (h : _). inl (omega arith)) (k .ros)
-
 -- what a stored word leaves
 module _ (s : List ℕ) (c : Configuration) (p : Pointer) (w : Word) where
-  abbrev n : ℕ
-  n = numberOf (cleared p w)
-
   -- a word that does not overlap it stays
   pub store-keeps-others : (q : Pointer)
       → (wordPlace c p + 4 ≤ wordPlace c q) ⊎ (wordPlace c q + 4 ≤ wordPlace c p)
       → wordIn (stored s c p w) c q ≡ wordIn s c q
-  unfolding wordWhere
   store-keeps-others q h =
       stored-either s c p w (λ (l : List ℕ). wordIn l c q ≡ wordIn s c q) refl
-      (λ (good : _).
-      let same : wordAt highFirst (stored s c p w) (wordPlace c q) ≡ wordAt highFirst s (wordPlace c q) =
-      rw (stored-laid s c p w good)
-      (laid-word-beside highFirst s (wordPlace c p) (wordBytes highFirst n) (wordPlace c q)
-      (rw (word-length highFirst n) h)) in
-      rw (stored-length s c p w, same))
+      (λ (good : _). rw (stored-laid s c p w good) (with-word-keeps-others s c p w q h))
 
   -- and every byte of a ring
   pub store-keeps-rings : (ring : Area) → isRing ring ≡ true → areaOf (stored s c p w) c ring ≡ areaOf s c ring
-  unfolding areaOf placeIn
   store-keeps-rings ring r =
       stored-either s c p w (λ (l : List ℕ). areaOf l c ring ≡ areaOf s c ring) refl
-      (λ (good : _).
-      let q = areaPlace c ring in
-      let clear : Clear c q = ring-clear (length s) c ring r (allowed-facts (length s) c (ok s c p w good)) in
-      rw (stored-length s c p w, ok s c p w good)
-      (ap (λ (l : List ℕ). part l (q .offset) (q .length)) (stored-laid s c p w good)
-      ∙ laid-beside s (wordPlace c p) (wordBytes highFirst n) (q .offset) (q .length)
-      (rw (word-length highFirst n) (beside c p ring clear))))
+      (λ (good : _). rw (stored-laid s c p w good) (with-word-keeps-rings s c p w (ok s c p w good) ring r))
