@@ -91,7 +91,7 @@ module _ (s : List ℕ) (c : Configuration) (p : Pointer) (w : Word) where
       rw (
         with-word-length,
         laid-word-beside highFirst s (wordPlace c p) (wordBytes highFirst n) (wordPlace c q)
-        (rw (word-length highFirst n) h),
+            (rw (word-length highFirst n) h),
       )
 
   module _ (ok : allowed (length s) c ≡ true) where
@@ -102,7 +102,7 @@ module _ (s : List ℕ) (c : Configuration) (p : Pointer) (w : Word) where
           with-word-length,
           ok,
           laid-word highFirst s (wordPlace c p) n (word-fits (length s) c p (allowed-facts (length s) c ok))
-          (number-below (cleared p w)),
+              (number-below (cleared p w)),
         )
 
     -- the word reads back, where its pointer is a multiple of 4 of 32 bits

@@ -9,7 +9,11 @@ use Rattle.octets.specs.Bytes.{laid}
 use Rattle.octets.specs.Checks.{Check, _unless_, firstFailing}
 use Rattle.octets.specs.Choice.{pick}
 use Rattle.octets.specs.Words.{highFirst, wordAt, wordBytes}
+use Rattle.mmbi.specs.declared.change.Act.{Act}
+use Rattle.mmbi.specs.declared.change.Change.{Change}
+use Rattle.mmbi.specs.declared.change.Change.the-variants.{Nothing, Host, Controller}
 use Rattle.mmbi.specs.declared.word.Word.{Word}
+use Rattle.mmbi.specs.Changes.{changedWord}
 use Rattle.mmbi.specs.Interface.{flagsOf}
 use Rattle.mmbi.specs.Pointers.{pointerRight}
 use Rattle.mmbi.specs.Words.{wordOf, numberOf}
@@ -90,3 +94,19 @@ pointing w at = record { pointer = at; bit1 = w .bit1; bit0 = w .bit0 }
 -- the window after a pointer alone is stored: the flags are those that stood there
 unfoldable pub storedPointer : List ℕ → Configuration → Pointer → ℕ → List ℕ
 storedPointer s c p at = stored s c p (pointing (wordIn s c p) at)
+
+-- the window after one end's flags are changed, beside the pointer that stands in their word, right or not
+abbrev pub withFlags : List ℕ → Configuration → Pointer → Act → List ℕ
+withFlags s c p act = withWord s c p (changedWord act (wordWhere true s c p))
+
+-- whose flags stand where: beside H2B_WP "[1] Host Interface Up (H_UP)", "[0] Host Reset Request (H_RST)"; beside B2H_WP
+-- "[1] (B)MC Interface Up (B_UP)", "[0] (B)MC Reset Request (B_RST)"
+abbrev pub withChange : List ℕ → Configuration → Change → List ℕ
+withChange s c Nothing = s
+withChange s c (Host act) = withFlags s c H2bWrite act
+withChange s c (Controller act) = withFlags s c B2hWrite act
+
+-- the window after a step of the reset handshake, as 8.1.2.2: "4) The (B)MC clears the H_UP and H_RST flags"; where the
+-- configuration is refused nothing is stored
+unfoldable pub storedFlags : List ℕ → Configuration → Change → List ℕ
+storedFlags s c change = pick (allowed (length s) c) (withChange s c change) s

@@ -9,4 +9,5 @@ pub use word::Interface;
 pub use word::Pointer;
 pub use word::interface_of;
 pub use word::store;
+pub use word::store_flags;
 pub use word::store_pointer;

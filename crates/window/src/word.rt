@@ -1,13 +1,16 @@
 // The words of Host_RWS and Host_ROS in a window: read, and stored. Any configuration may be handed in here too.
 use descriptor::Area;
 use descriptor::Configuration;
+use mmbi::Act;
+use mmbi::Change;
 use mmbi::Flags;
 use mmbi::Pointers;
 use mmbi::Word;
 ghost use mathlib.Core.Path.{_≡_};
 ghost use lib.ListN.{length};
+ghost use Rattle.window.specs.Places.{refusalOf};
 ghost use Rattle.window.specs.Words.{wordPlace, hasUp, cleared, wordWhere, interfaceIn, pointsInto};
-ghost use Rattle.window.specs.Words.{storeRefusal, withWord, stored, storedPointer};
+ghost use Rattle.window.specs.Words.{storeRefusal, withWord, stored, storedPointer, withFlags, storedFlags};
 
 // The four pointers, by the words that hold them: H2B_WP and B2H_RP in Host_RWS, B2H_WP and H2B_RP in Host_ROS.
 pub enum Pointer {
@@ -84,6 +87,32 @@ pub fn store_pointer(window: &mut [u8], c: Configuration, which: Pointer, pointe
             bit0: held.bit0,
         },
     )
+}
+
+// The flags that a step of the reset handshake changes, beside the pointer that stands there, whatever it is: so a reset
+// can cure a broken pointer. 0, or 1 with nothing stored.
+pub fn store_flags(window: &mut [u8], c: Configuration, change: Change) -> u8
+    ensures number { λ r. ⌜ r ≡ refusalOf (length (now (window .entry))) c ⌝ }
+    ensures window { λ _. ⌜ now (window .exit) ≡ storedFlags (now (window .entry)) c change ⌝ }
+{
+    if !descriptor::is_allowed(window.len(), c) {
+        return 1;
+    }
+    match change {
+        Change::Nothing => {}
+        Change::Host(act) => lay_flags(window, c, Pointer::H2bWrite, act),
+        Change::Controller(act) => lay_flags(window, c, Pointer::B2hWrite, act),
+    }
+    0
+}
+
+// An end's flags, changed in the word that holds this pointer. No other word is written: each end has its own structure
+// to write.
+fn lay_flags(window: &mut [u8], c: Configuration, which: Pointer, act: Act)
+    ensures { λ _. ⌜ now (window .exit) ≡ withFlags (now (window .entry)) c which act ⌝ }
+{
+    let held = word_where(window, true, c, which);
+    lay_word(window, c, which, mmbi::changed_word(held, act));
 }
 
 // Whether this pointer may be stored: 1, 12, or 0 where it may.
