@@ -13,6 +13,7 @@ use Rattle.window.proofs.place.area.Reads as area
 use Rattle.window.proofs.word.interface_of.Reads as interface-of
 use Rattle.window.proofs.word.store.Reads as store
 use Rattle.window.proofs.word.store_pointer.Reads as store-pointer
+use Rattle.window.proofs.word.store_flags.Reads as store-flags
 
 pub refusal-determined : (κs : Lfts 1) (a : _) (r q : ℕ) (e f : _)
     → refusal.Post κs a r e → refusal.Post κs a q f → r ≡ q
@@ -38,6 +39,10 @@ pub store-pointer-determined : (κs : Lfts 1) (a : _) (r q : ℕ) (e f : _)
     → store-pointer.Post κs a r e → store-pointer.Post κs a q f → (r ≡ q) × (e .0 .now ≡ f .0 .now)
 store-pointer-determined κs a r q e f p o = (determined (p .0) (o .0), determined (p .1) (o .1))
 
+pub store-flags-determined : (κs : Lfts 1) (a : _) (r q : ℕ) (e f : _)
+    → store-flags.Post κs a r e → store-flags.Post κs a q f → (r ≡ q) × (e .0 .now ≡ f .0 .now)
+store-flags-determined κs a r q e f p o = (determined (p .0) (o .0), determined (p .1) (o .1))
+
 -- No call asks anything of its arguments first.
 pub no-requires : ((κs : Lfts 1) (a : _) → refusal.Pre κs a)
     × ((κs : Lfts 1) (a : _) → place-of.Pre κs a)
@@ -45,4 +50,6 @@ pub no-requires : ((κs : Lfts 1) (a : _) → refusal.Pre κs a)
     × ((κs : Lfts 1) (a : _) → interface-of.Pre κs a)
     × ((κs : Lfts 1) (a : _) → store.Pre κs a)
     × ((κs : Lfts 1) (a : _) → store-pointer.Pre κs a)
-no-requires = ((λ κs a. tt), (λ κs a. tt), (λ κs a. tt), (λ κs a. tt), (λ κs a. tt), (λ κs a. tt))
+    × ((κs : Lfts 1) (a : _) → store-flags.Pre κs a)
+no-requires =
+    ((λ κs a. tt), (λ κs a. tt), (λ κs a. tt), (λ κs a. tt), (λ κs a. tt), (λ κs a. tt), (λ κs a. tt))

@@ -1,5 +1,6 @@
 pub mod Areas
 pub mod Stores
+pub mod Flags
 pub mod Determined
 pub mod Literal
 pub mod Interfaces

@@ -7,7 +7,11 @@ use Prim.Native.Nat.{ℕ}
 use lib.ListN.{take, drop, replicate}
 use Rattle.octets.specs.Bytes.{laid}
 use Rattle.octets.specs.Words.{wordAt, wordBytes}
+use Rattle.mmbi.specs.declared.change.Act.the-variants.{SetUp, ClearUp, SetReset, ClearReset, ClearBoth}
+use Rattle.mmbi.specs.declared.change.Change.{Change}
+use Rattle.mmbi.specs.declared.change.Change.the-variants.{Nothing, Host, Controller}
 use Rattle.mmbi.specs.declared.word.Word.{Word}
+use Rattle.mmbi.specs.Changes.{changedWord}
 use Rattle.mmbi.specs.Interface.{flagsOf}
 use Rattle.mmbi.specs.Words.{wordOf, numberOf}
 use Rattle.descriptor.specs.declared.configuration.Configuration.{Configuration}
@@ -19,6 +23,7 @@ use Rattle.window.specs.declared.word.Pointer.the-variants.{H2bWrite, B2
 use Rattle.window.specs.declared.word.Interface.{Interface}
 use Rattle.window.specs.Places.{refusalOf, placeIn, areaOf}
 use Rattle.window.specs.Words.{cleared, wordWhere, interfaceIn, storeRefusal, stored, storedPointer}
+use Rattle.window.specs.Words.{storedFlags}
 
 -- 1 in a window one byte too short; nothing lies there then
 pub image-setup : map (λ (n : ℕ). refusalOf n imageConfiguration) (339 ∷ 340 ∷ []) ≡ 1 ∷ 0 ∷ []
@@ -183,3 +188,75 @@ pub reserved-cleared : take 16
 unfolding storedPointer stored storeRefusal wordWhere cleared wordOf numberOf allowed inside clear wordAt
     wordBytes laid
 reserved-cleared = refl
+
+-- every pointer past its ring: B2H_WP F1020304, H2B_RP 05060708, H2B_WP 890A0B0C, B2H_RP 0D0E0F10. B_UP and H_RST are
+-- set, or B_RST and H_UP, and the reserved bits of the second words, which no change of flags clears
+abbrev broken : ℕ → ℕ → List ℕ
+broken b2hWrite h2bWrite =
+    withWords (241 ∷ 2 ∷ 3 ∷ b2hWrite ∷ []) (5 ∷ 6 ∷ 7 ∷ 11 ∷ []) (137 ∷ 10 ∷ 11 ∷ h2bWrite ∷ [])
+    (13 ∷ 14 ∷ 15 ∷ 18 ∷ [])
+
+-- nothing, and each change that the handshake makes
+abbrev steps : List Change
+steps =
+    Nothing ∷ Host SetReset ∷ Host SetUp ∷ Host ClearBoth ∷ Controller SetReset ∷ Controller ClearUp
+    ∷ Controller ClearReset ∷ Controller SetUp ∷ []
+
+abbrev afterEach : List ℕ → List (List ℕ)
+afterEach s = map (λ (change : Change). take 16 (drop 64 (storedFlags s imageConfiguration change))) steps
+
+-- Host_ROS and then Host_RWS after each: one bit, or two, of one byte
+pub each-step-up : afterEach (broken 6 13)
+    ≡ (241 ∷ 2 ∷ 3 ∷ 6 ∷ 5 ∷ 6 ∷ 7 ∷ 11 ∷ 137 ∷ 10 ∷ 11 ∷ 13 ∷ 13 ∷ 14 ∷ 15 ∷ 18 ∷ [])
+    ∷ (241 ∷ 2 ∷ 3 ∷ 6 ∷ 5 ∷ 6 ∷ 7 ∷ 11 ∷ 137 ∷ 10 ∷ 11 ∷ 13 ∷ 13 ∷ 14 ∷ 15 ∷ 18 ∷ [])
+    ∷ (241 ∷ 2 ∷ 3 ∷ 6 ∷ 5 ∷ 6 ∷ 7 ∷ 11 ∷ 137 ∷ 10 ∷ 11 ∷ 15 ∷ 13 ∷ 14 ∷ 15 ∷ 18 ∷ [])
+    ∷ (241 ∷ 2 ∷ 3 ∷ 6 ∷ 5 ∷ 6 ∷ 7 ∷ 11 ∷ 137 ∷ 10 ∷ 11 ∷ 12 ∷ 13 ∷ 14 ∷ 15 ∷ 18 ∷ [])
+    ∷ (241 ∷ 2 ∷ 3 ∷ 7 ∷ 5 ∷ 6 ∷ 7 ∷ 11 ∷ 137 ∷ 10 ∷ 11 ∷ 13 ∷ 13 ∷ 14 ∷ 15 ∷ 18 ∷ [])
+    ∷ (241 ∷ 2 ∷ 3 ∷ 4 ∷ 5 ∷ 6 ∷ 7 ∷ 11 ∷ 137 ∷ 10 ∷ 11 ∷ 13 ∷ 13 ∷ 14 ∷ 15 ∷ 18 ∷ [])
+    ∷ (241 ∷ 2 ∷ 3 ∷ 6 ∷ 5 ∷ 6 ∷ 7 ∷ 11 ∷ 137 ∷ 10 ∷ 11 ∷ 13 ∷ 13 ∷ 14 ∷ 15 ∷ 18 ∷ [])
+    ∷ (241 ∷ 2 ∷ 3 ∷ 6 ∷ 5 ∷ 6 ∷ 7 ∷ 11 ∷ 137 ∷ 10 ∷ 11 ∷ 13 ∷ 13 ∷ 14 ∷ 15 ∷ 18 ∷ [])
+    ∷ []
+unfolding storedFlags changedWord wordWhere cleared wordOf numberOf allowed inside clear wordAt wordBytes laid
+each-step-up = refl
+
+pub each-step-reset : afterEach (broken 5 14)
+    ≡ (241 ∷ 2 ∷ 3 ∷ 5 ∷ 5 ∷ 6 ∷ 7 ∷ 11 ∷ 137 ∷ 10 ∷ 11 ∷ 14 ∷ 13 ∷ 14 ∷ 15 ∷ 18 ∷ [])
+    ∷ (241 ∷ 2 ∷ 3 ∷ 5 ∷ 5 ∷ 6 ∷ 7 ∷ 11 ∷ 137 ∷ 10 ∷ 11 ∷ 15 ∷ 13 ∷ 14 ∷ 15 ∷ 18 ∷ [])
+    ∷ (241 ∷ 2 ∷ 3 ∷ 5 ∷ 5 ∷ 6 ∷ 7 ∷ 11 ∷ 137 ∷ 10 ∷ 11 ∷ 14 ∷ 13 ∷ 14 ∷ 15 ∷ 18 ∷ [])
+    ∷ (241 ∷ 2 ∷ 3 ∷ 5 ∷ 5 ∷ 6 ∷ 7 ∷ 11 ∷ 137 ∷ 10 ∷ 11 ∷ 12 ∷ 13 ∷ 14 ∷ 15 ∷ 18 ∷ [])
+    ∷ (241 ∷ 2 ∷ 3 ∷ 5 ∷ 5 ∷ 6 ∷ 7 ∷ 11 ∷ 137 ∷ 10 ∷ 11 ∷ 14 ∷ 13 ∷ 14 ∷ 15 ∷ 18 ∷ [])
+    ∷ (241 ∷ 2 ∷ 3 ∷ 5 ∷ 5 ∷ 6 ∷ 7 ∷ 11 ∷ 137 ∷ 10 ∷ 11 ∷ 14 ∷ 13 ∷ 14 ∷ 15 ∷ 18 ∷ [])
+    ∷ (241 ∷ 2 ∷ 3 ∷ 4 ∷ 5 ∷ 6 ∷ 7 ∷ 11 ∷ 137 ∷ 10 ∷ 11 ∷ 14 ∷ 13 ∷ 14 ∷ 15 ∷ 18 ∷ [])
+    ∷ (241 ∷ 2 ∷ 3 ∷ 7 ∷ 5 ∷ 6 ∷ 7 ∷ 11 ∷ 137 ∷ 10 ∷ 11 ∷ 14 ∷ 13 ∷ 14 ∷ 15 ∷ 18 ∷ [])
+    ∷ []
+unfolding storedFlags changedWord wordWhere cleared wordOf numberOf allowed inside clear wordAt wordBytes laid
+each-step-reset = refl
+
+-- where such a pointer is refused with 12, the flags beside it are not; in a window one byte too short they are, with 1
+pub broken-answers :
+    storeRefusal 340 imageConfiguration B2hWrite 0xF1020304
+    ∷ storeRefusal 340 imageConfiguration H2bWrite 0x890A0B0C
+    ∷ refusalOf 340 imageConfiguration
+    ∷ refusalOf 339 imageConfiguration
+    ∷ []
+    ≡ 12 ∷ 12 ∷ 0 ∷ 1 ∷ []
+unfolding storeRefusal refusalOf allowed inside clear
+broken-answers = refl
+
+-- and there every byte stays
+pub short-stays : map (λ (change : Change). storedFlags (take 339 (broken 6 13)) imageConfiguration change) steps
+    ≡ replicate 8 (take 339 (broken 6 13))
+unfolding storedFlags allowed inside clear
+short-stays = refl
+
+-- both structures in one place, as document 01 lets them lie: the host's H_RST is B_RST too
+abbrev overlapping : Configuration
+overlapping = record { b2h = imageConfiguration .b2h; h2b = imageConfiguration .h2b; ros = 64; rws = 64 }
+
+pub overlapping-flags :
+    map (λ (change : Change). interfaceIn (storedFlags (broken 6 13) overlapping change) overlapping .flags)
+    (Nothing ∷ Host SetReset ∷ [])
+    ≡ flagsOf true false true false ∷ flagsOf true true true true ∷ []
+unfolding storedFlags changedWord wordWhere cleared wordOf numberOf interfaceIn allowed inside clear wordAt wordBytes
+    laid
+overlapping-flags = refl

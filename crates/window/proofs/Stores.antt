@@ -111,16 +111,21 @@ module _ (s : List ℕ) (c : Configuration) (p : Pointer) (w : Word) where
     with-word-back fours below =
         word-laid ∙ ap (cleared p) (word-back (cleared p w) fours below) ∙ cleared-twice p w
 
-    -- every byte of a ring stays
+    -- every byte of an area that it does not overlap stays, and so every byte of a ring
+    pub with-word-keeps-area : (area : Area)
+        → (wordPlace c p + 4 ≤ areaPlace c area .offset) ⊎ (endOf (areaPlace c area) ≤ wordPlace c p)
+        → areaOf (withWord s c p w) c area ≡ areaOf s c area
+    unfolding areaOf placeIn
+    with-word-keeps-area area h =
+        let q = areaPlace c area in
+        rw (with-word-length, ok)
+        (laid-beside s (wordPlace c p) (wordBytes highFirst n) (q .offset) (q .length) (rw (word-length highFirst n) h))
+
     pub with-word-keeps-rings : (ring : Area) → isRing ring ≡ true
         → areaOf (withWord s c p w) c ring ≡ areaOf s c ring
-    unfolding areaOf placeIn
     with-word-keeps-rings ring r =
-        let q = areaPlace c ring in
-        rw (with-word-length, ok)
-        (laid-beside s (wordPlace c p) (wordBytes highFirst n) (q .offset) (q .length)
-        (rw (word-length highFirst n)
-        (beside c p ring (ring-clear (length s) c ring r (allowed-facts (length s) c ok)))))
+        with-word-keeps-area ring
+        (beside c p ring (ring-clear (length s) c ring r (allowed-facts (length s) c ok)))
 
 -- nothing is refused of a pointer that an allowed configuration's ring can have, and of no other
 module _ (window : ℕ) (c : Configuration) (p : Pointer) (at : ℕ) where
