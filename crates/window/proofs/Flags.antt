@@ -1,15 +1,15 @@
 -- Flags stored into a window: they read back, the pointer beside them stays, right for its ring or not, and so do all
 -- other words and every byte of a ring. Nothing is stored where the configuration is refused.
 -- Assumes nothing.
-use mathlib.Core.Path.{_≡_, refl, ap, _∙_}
-use mathlib.Core.Bool.{Bool, true, false, _&&_, and-true}
+use mathlib.Core.Path.{_≡_, refl, _∙_}
+use mathlib.Core.Bool.{true, false, _&&_, and-true}
 use mathlib.Core.List.{List}
-use mathlib.Core.Logic.{_⊎_, inl, inr, ⊎-elim}
-use Prim.Native.Nat.{ℕ, _+_, _%_, _/_, _^_, _≤_, _<_}
+use mathlib.Core.Logic.{inl, inr, ⊎-elim}
+use Prim.Native.Nat.{ℕ, _^_, _≤_, _<_}
 use native.Mathlib.Omega.{arith}
 use lib.ListN.{length}
 use Rattle.octets.specs.Bytes.{Below}
-use Rattle.octets.specs.Words.{highFirst, wordAt}
+use Rattle.octets.specs.Words.{highFirst}
 use Rattle.octets.proofs.Choice.{pick-elim}
 use Rattle.octets.proofs.Words.{word-below}
 use Rattle.mmbi.specs.declared.change.Act.{Act}
@@ -27,12 +27,18 @@ use Rattle.descriptor.proofs.Places.{Apart}
 use Rattle.window.specs.declared.word.Pointer.{Pointer}
 use Rattle.window.specs.declared.word.Pointer.the-variants.{H2bWrite, B2hRead, B2hWrite, H2bRead}
 use Rattle.window.specs.declared.word.Interface.{Interface}
-use Rattle.window.specs.Places.{areaOf}
+use Rattle.window.specs.Places.{refusalOf, areaOf}
 use Rattle.window.specs.Words.{wordPlace, hasUp, cleared, wordWhere, wordIn, interfaceIn, withFlags, withChange}
 use Rattle.window.specs.Words.{withWord, storedFlags}
 use Rattle.window.proofs.Interfaces.{pointer-aligned}
 use Rattle.window.proofs.Stores.{with-word-length, with-word-keeps-others, with-word-back}
 use Rattle.window.proofs.Stores.{with-word-keeps-area, with-word-keeps-rings}
+
+-- 0 or 1, so never 12: no pointer is judged
+pub flags-number : (window : ℕ) (c : Configuration) → refusalOf window c ≤ 1
+unfolding refusalOf
+flags-number window c =
+    pick-elim (λ (n : ℕ). n ≤ 1) (allowed window c) 0 1 (λ (e : _). omega arith) (λ (e : _). omega arith)
 
 -- where the configuration is refused nothing is stored
 pub flags-refused : (s : List ℕ) (c : Configuration) (change : Change) → allowed (length s) c ≡ false
@@ -71,8 +77,7 @@ flags-keep-rings s c change ring r =
     flags-either (λ (l : List ℕ). areaOf l c ring ≡ areaOf s c ring) s c change refl
     (λ (p : Pointer) (w : Word) (ok : _). with-word-keeps-rings s c p w ok ring r)
 
--- an end writes no byte of the other's structure; where the two overlap, as document 01 lets them, each is the other's
--- too
+-- an end writes no byte of the other's structure, unless the two overlap, as document 01 lets them
 pub flags-keep-structure : (s : List ℕ) (c : Configuration) → allowed (length s) c ≡ true
     → Apart (areaPlace c Ros) (areaPlace c Rws) → (act : Act)
     → (areaOf (storedFlags s c (Host act)) c Ros ≡ areaOf s c Ros)

@@ -106,8 +106,8 @@ pub fn store_flags(window: &mut [u8], c: Configuration, change: Change) -> u8
     0
 }
 
-// An end's flags, changed in the word that holds this pointer. No other word is written: each end has its own structure
-// to write.
+// An end's flags, changed in the word that holds this pointer. No other word is written, so that the host writes no byte
+// of Host_ROS, which it may only read.
 fn lay_flags(window: &mut [u8], c: Configuration, which: Pointer, act: Act)
     ensures { λ _. ⌜ now (window .exit) ≡ withFlags (now (window .entry)) c which act ⌝ }
 {
