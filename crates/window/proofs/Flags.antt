@@ -125,8 +125,8 @@ module _ (s : List ℕ) (c : Configuration) (bytes : Below 256 s) (ok : allowed 
       (with-word-back s c p (changedWord act held) ok (rw ok at (pointer-aligned s c p)) (pointer-below p)
       ∙ both-flags p up (changedWord act held))
 
-  -- an end's word reads back with its flags changed and the pointer that stood in it, all 30 bits, right for its ring or
-  -- not
+  -- an end's word reads back with its flags changed and the pointer that stood in it, all 30 bits, right for its ring
+  -- or not
   pub flags-back : (act : Act)
       → (wordIn (storedFlags s c (Host act)) c H2bWrite ≡ changedWord act (wordIn s c H2bWrite))
       × (wordIn (storedFlags s c (Controller act)) c B2hWrite ≡ changedWord act (wordIn s c B2hWrite))

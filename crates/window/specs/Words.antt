@@ -99,8 +99,8 @@ storedPointer s c p at = stored s c p (pointing (wordIn s c p) at)
 abbrev pub withFlags : List ℕ → Configuration → Pointer → Act → List ℕ
 withFlags s c p act = withWord s c p (changedWord act (wordWhere true s c p))
 
--- whose flags stand where: beside H2B_WP "[1] Host Interface Up (H_UP)", "[0] Host Reset Request (H_RST)"; beside B2H_WP
--- "[1] (B)MC Interface Up (B_UP)", "[0] (B)MC Reset Request (B_RST)"
+-- whose flags stand where: beside H2B_WP "[1] Host Interface Up (H_UP)", "[0] Host Reset Request (H_RST)"; beside
+-- B2H_WP "[1] (B)MC Interface Up (B_UP)", "[0] (B)MC Reset Request (B_RST)"
 abbrev pub withChange : List ℕ → Configuration → Change → List ℕ
 withChange s c Nothing = s
 withChange s c (Host act) = withFlags s c H2bWrite act

@@ -89,8 +89,8 @@ pub fn store_pointer(window: &mut [u8], c: Configuration, which: Pointer, pointe
     )
 }
 
-// The flags that a step of the reset handshake changes, beside the pointer that stands there, whatever it is: so a reset
-// can cure a broken pointer. 0, or 1 with nothing stored.
+// The flags that a step of the reset handshake changes, beside the pointer that stands there, whatever it is: so a
+// reset can cure a broken pointer. 0, or 1 with nothing stored.
 pub fn store_flags(window: &mut [u8], c: Configuration, change: Change) -> u8
     ensures number { λ r. ⌜ r ≡ refusalOf (length (now (window .entry))) c ⌝ }
     ensures window { λ _. ⌜ now (window .exit) ≡ storedFlags (now (window .entry)) c change ⌝ }
@@ -106,8 +106,8 @@ pub fn store_flags(window: &mut [u8], c: Configuration, change: Change) -> u8
     0
 }
 
-// An end's flags, changed in the word that holds this pointer. No other word is written, so that the host writes no byte
-// of Host_ROS, which it may only read.
+// An end's flags, changed in the word that holds this pointer. No other word is written, so that the host writes no
+// byte of Host_ROS, which it may only read.
 fn lay_flags(window: &mut [u8], c: Configuration, which: Pointer, act: Act)
     ensures { λ _. ⌜ now (window .exit) ≡ withFlags (now (window .entry)) c which act ⌝ }
 {
