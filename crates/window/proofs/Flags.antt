@@ -77,7 +77,8 @@ flags-keep-rings s c change ring r =
     flags-either (λ (l : List ℕ). areaOf l c ring ≡ areaOf s c ring) s c change refl
     (λ (p : Pointer) (w : Word) (ok : _). with-word-keeps-rings s c p w ok ring r)
 
--- an end writes no byte of the other's structure, unless the two overlap, as document 01 lets them
+-- a change of the host's flags leaves every byte of Host_ROS, one of the controller's every byte of Host_RWS, where the
+-- two do not overlap
 pub flags-keep-structure : (s : List ℕ) (c : Configuration) → allowed (length s) c ≡ true
     → Apart (areaPlace c Ros) (areaPlace c Rws) → (act : Act)
     → (areaOf (storedFlags s c (Host act)) c Ros ≡ areaOf s c Ros)

@@ -205,7 +205,7 @@ steps =
 abbrev afterEach : List ℕ → List (List ℕ)
 afterEach s = map (λ (change : Change). take 16 (drop 64 (storedFlags s imageConfiguration change))) steps
 
--- Host_ROS and then Host_RWS after each: one bit, or two, of one byte
+-- Host_ROS and then Host_RWS after each, where B_UP and H_RST are set: at most one byte is another
 pub each-step-up : afterEach (broken 6 13)
     ≡ (241 ∷ 2 ∷ 3 ∷ 6 ∷ 5 ∷ 6 ∷ 7 ∷ 11 ∷ 137 ∷ 10 ∷ 11 ∷ 13 ∷ 13 ∷ 14 ∷ 15 ∷ 18 ∷ [])
     ∷ (241 ∷ 2 ∷ 3 ∷ 6 ∷ 5 ∷ 6 ∷ 7 ∷ 11 ∷ 137 ∷ 10 ∷ 11 ∷ 13 ∷ 13 ∷ 14 ∷ 15 ∷ 18 ∷ [])
@@ -219,6 +219,7 @@ pub each-step-up : afterEach (broken 6 13)
 unfolding storedFlags changedWord wordWhere cleared wordOf numberOf allowed inside clear wordAt wordBytes laid
 each-step-up = refl
 
+-- and where B_RST and H_UP are
 pub each-step-reset : afterEach (broken 5 14)
     ≡ (241 ∷ 2 ∷ 3 ∷ 5 ∷ 5 ∷ 6 ∷ 7 ∷ 11 ∷ 137 ∷ 10 ∷ 11 ∷ 14 ∷ 13 ∷ 14 ∷ 15 ∷ 18 ∷ [])
     ∷ (241 ∷ 2 ∷ 3 ∷ 5 ∷ 5 ∷ 6 ∷ 7 ∷ 11 ∷ 137 ∷ 10 ∷ 11 ∷ 15 ∷ 13 ∷ 14 ∷ 15 ∷ 18 ∷ [])
