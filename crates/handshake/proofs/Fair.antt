@@ -1,0 +1,186 @@
+-- Under any fair order of steps normal runtime comes back, from every state that steps and asks in any order can reach.
+-- Assumes nothing.
+use mathlib.Core.Path.{_≡_, refl, ap, sym, subst, _∙_}
+use mathlib.Core.Bool.{Bool, true, false, _||_, false≢true}
+use mathlib.Core.List.{List, [], _∷_, _++_, map}
+use Prim.Native.Nat.{ℕ, zero, suc, _+_, _-_, _*_, _≤_}
+use native.Mathlib.Omega.{arith}
+use native.Mathlib.Nat.{suc-mul}
+use lib.ListN.{length, take, drop, length-drop}
+use lib.Seq.{take-add, take-take, drop-drop, length-take-le}
+use Rattle.handshake.specs.Runs.{Ends, End, theHost, theController, sameEnd, stepped, Move, steps, after, running}
+use Rattle.handshake.specs.Runs.{isBack, stepsIn, Fair, BackWithin, inTurn, Asker, hostAsks, controllerAsks, bothAsk, asking}
+use Rattle.handshake.specs.Steps.{hostStep, controllerStep}
+use Rattle.handshake.proofs.Left.{sees, waits, leftWithin, left, finishes, few-left, finishes-few, one-fewer, someone-acts, finishes-moved}
+use Rattle.handshake.proofs.Left.{finishes-after, back-is-running}
+
+-- by a test, one way or the other
+either-way : {A : Type 0} (b : Bool) → (b ≡ true → A) → (b ≡ false → A) → A
+either-way true f g = f refl
+either-way false f g = g refl
+
+-- steps after steps
+after-more : (a b : List End) (e : Ends) → after (map steps (a ++ b)) e ≡ after (map steps b) (after (map steps a) e)
+unfolding after
+after-more [] b e = refl
+after-more (end ∷ a) b e = after-more a b (stepped end e)
+
+-- the first step that acts, among steps of which one is by an end that acts now
+record Act (order : List End) (e : Ends) : Type 0 where
+  count : ℕ
+  end : End
+  within : count ≤ length order
+  acts : sees end e ≡ true
+  leaves : after (map steps (take count order)) e ≡ stepped end e
+
+same-sees : (a b : End) (e : Ends) → sameEnd a b ≡ true → sees a e ≡ sees b e
+same-sees theHost theHost e h = refl
+same-sees theHost theController e h = absurd (false≢true h)
+same-sees theController theHost e h = absurd (false≢true h)
+same-sees theController theController e h = refl
+
+-- an end that acts now, where the next step waits, is not the next one
+not-next : (end next : End) (order : List End) (e : Ends) → sees end e ≡ true → sees next e ≡ false
+    → stepsIn end (next ∷ order) ≡ true → stepsIn end order ≡ true
+unfolding stepsIn
+not-next end next order e acts n = behind (sameEnd end next) refl
+  where
+    behind : (b : Bool) → sameEnd end next ≡ b → (b || stepsIn end order) ≡ true → stepsIn end order ≡ true
+    behind true s k = absurd (false≢true (sym n ∙ sym (same-sees end next e s) ∙ acts))
+    behind false s k = k
+
+first-act : (order : List End) (end : End) (e : Ends) → sees end e ≡ true → stepsIn end order ≡ true → Act order e
+unfolding stepsIn after
+first-act [] end e acts h = absurd (false≢true h)
+first-act (next ∷ order) end e acts h =
+    either-way (sees next e)
+    (λ (s : sees next e ≡ true).
+    record { count = 1; end = next; within = omega arith; acts = s; leaves = refl })
+    (λ (s : sees next e ≡ false).
+    let rest = first-act order end e acts (not-next end next order e acts s h) in
+    record {
+      count = suc (rest .count);
+      end = rest .end;
+      within = omega (arith, rest .within);
+      acts = rest .acts;
+      leaves = ap (λ (x : Ends). after (map steps (take (rest .count) order)) x) (waits next e s) ∙ rest .leaves;
+    })
+
+-- a fair order is fair from every place on
+fair-from : (k j : ℕ) (order : List End) → j ≤ length order → Fair k order → Fair k (drop j order)
+unfolding Fair
+fair-from k j order h fair end before long =
+    rw (drop-drop before j order) (fair end (j + before) (omega (arith, length-drop j order)))
+
+-- one act, and then the rest: in k steps somebody acts
+module _ (k : ℕ) (order : List End) (e : Ends) (n : ℕ) where
+  on-from : (first : Act (take k order) e) → n * k + k ≤ length order
+      → BackWithin (n * k) (drop (first .count) order) (stepped (first .end) e)
+      → BackWithin (n * k + k) order e
+  on-from first long rest =
+      let j = first .count in
+      let soon : j ≤ k = omega (arith, first .within, length-take-le k order (omega arith)) in
+      let now : after (map steps (take j order)) e ≡ stepped (first .end) e =
+      ap (λ (l : List End). after (map steps l) e) (sym (take-take j k order soon)) ∙ first .leaves in
+      record {
+        count = j + rest .count;
+        soon = omega (arith, rest .soon);
+        back =
+            ap (λ (l : List End). after (map steps l) e) (take-add j (rest .count) order)
+            ∙ after-more (take j order) (take (rest .count) (drop j order)) e
+            ∙ ap (λ (x : Ends). after (map steps (take (rest .count) (drop j order))) x) now
+            ∙ rest .back;
+      }
+
+-- no step is wanted where it is back
+already : (most : ℕ) (order : List End) (e : Ends) → isBack e ≡ true → BackWithin most order e
+unfolding after
+already most order e b = record { count = 0; soon = omega arith; back = back-is-running e b }
+
+-- in k steps of a fair order somebody acts, unless it is back
+next-act : (k : ℕ) (order : List End) (e : Ends) → finishes e ≡ true → Fair k order → k ≤ length order
+    → isBack e ≡ false → Act (take k order) e
+unfolding Fair
+next-act k order e can fair long b =
+    let acting = someone-acts e can b in
+    first-act (take k order) (acting .0) e (acting .1) (fair (acting .0) 0 (omega arith))
+
+-- so many acts are left: that many times k steps are enough
+abbrev Enough : ℕ → ℕ → Type 0
+Enough k n = (order : List End) (e : Ends) → finishes e ≡ true → left e ≤ n → Fair k order → n * k ≤ length order
+    → BackWithin (n * k) order e
+
+none-wanted : (k : ℕ) → Enough k 0
+none-wanted k order e can few fair long =
+    either-way (isBack e) (already (0 * k) order e)
+    (λ (b : isBack e ≡ false).
+    let acting = someone-acts e can b in
+    absurd (omega (arith, one-fewer e can (acting .0) (acting .1))))
+
+one-more : (k n : ℕ) → Enough k n → Enough k (suc n)
+one-more k n enough order e can few fair long =
+    either-way (isBack e) (already (suc n * k) order e)
+    (λ (b : isBack e ≡ false).
+    let more : suc n * k ≡ n * k + k = suc-mul n k in
+    let first = next-act k order e can fair (omega arith) b in
+    let within : first .count ≤ k = omega (arith, first .within, length-take-le k order (omega arith)) in
+    rw more
+    (on-from k order e n first (omega arith)
+    (enough (drop (first .count) order) (stepped (first .end) e)
+    (finishes-moved (steps (first .end)) e can) (omega (arith, one-fewer e can (first .end) (first .acts)))
+    (fair-from k (first .count) order (omega arith) fair)
+    (omega (arith, length-drop (first .count) order)))))
+
+pub back-within : (k n : ℕ) → Enough k n
+back-within k zero = none-wanted k
+back-within k (suc n) = one-more k n (back-within k n)
+
+-- from normal runtime with one end asking, or both
+asking-left : (asker : Asker) → left (asking asker) ≡ 7
+unfolding left leftWithin hostStep controllerStep
+asking-left hostAsks = refl
+asking-left controllerAsks = refl
+asking-left bothAsk = refl
+
+pub back-from-asking : (asker : Asker) (k : ℕ) (order : List End) → Fair k order → 7 * k ≤ length order
+    → BackWithin (7 * k) order (asking asker)
+back-from-asking asker k order fair long =
+    let seven = asking-left asker in
+    back-within k 7 order (asking asker) (finishes-few (asking asker) (omega arith)) (omega arith) fair long
+
+-- from whatever steps and asks lead to, and so nothing that can be reached is stuck
+running-finishes : finishes running ≡ true
+unfolding finishes left leftWithin
+running-finishes = refl
+
+pub back-from-anywhere : (history : List Move) (k : ℕ) (order : List End) → Fair k order → 8 * k ≤ length order
+    → BackWithin (8 * k) order (after history running)
+back-from-anywhere history k order fair long =
+    let can = finishes-after history running running-finishes in
+    back-within k 8 order (after history running) can (few-left (after history running) can) fair long
+
+-- stepping in turn is a fair order, so the premise can be met
+in-turn-length : (first : End) (n : ℕ) → length (inTurn first n) ≡ n
+in-turn-length first zero = refl
+in-turn-length theHost (suc n) = ap suc (in-turn-length theController n)
+in-turn-length theController (suc n) = ap suc (in-turn-length theHost n)
+
+two-in-turn : (first end : End) (n : ℕ) → stepsIn end (take 2 (inTurn first (suc (suc n)))) ≡ true
+unfolding stepsIn
+two-in-turn theHost theHost n = refl
+two-in-turn theHost theController n = refl
+two-in-turn theController theHost n = refl
+two-in-turn theController theController n = refl
+
+two-anywhere : (first end : End) (before n : ℕ) → before + 2 ≤ n
+    → stepsIn end (take 2 (drop before (inTurn first n))) ≡ true
+two-anywhere first end zero zero h = absurd (omega arith)
+two-anywhere first end zero (suc zero) h = absurd (omega arith)
+two-anywhere first end zero (suc (suc n)) h = two-in-turn first end n
+two-anywhere first end (suc before) zero h = absurd (omega arith)
+two-anywhere theHost end (suc before) (suc n) h = two-anywhere theController end before n (omega arith)
+two-anywhere theController end (suc before) (suc n) h = two-anywhere theHost end before n (omega arith)
+
+pub in-turn-fair : (first : End) (n : ℕ) → Fair 2 (inTurn first n)
+unfolding Fair
+in-turn-fair first n end before h = two-anywhere first end before n (omega (arith, in-turn-length first n))
