@@ -3,6 +3,7 @@ pub mod Presented
 pub mod Outputs
 pub mod Arrivals
 pub mod CutRings
+pub mod Turns
 pub mod Demands
 pub mod Calls
 pub mod Checked

@@ -1,1 +1,2 @@
 pub mod Presenting
+pub mod Turns

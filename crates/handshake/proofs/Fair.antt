@@ -8,16 +8,12 @@ use native.Mathlib.Omega.{arith}
 use native.Mathlib.Nat.{suc-mul}
 use lib.ListN.{length, take, drop, length-drop}
 use lib.Seq.{take-add, take-take, drop-drop, length-take-le}
+use Rattle.octets.proofs.Choice.{either-way}
 use Rattle.handshake.specs.Runs.{Ends, End, theHost, theController, sameEnd, stepped, Move, steps, after, running}
 use Rattle.handshake.specs.Runs.{isBack, stepsIn, Fair, BackWithin, inTurn, Asker, hostAsks, controllerAsks, bothAsk, asking}
 use Rattle.handshake.specs.Steps.{hostStep, controllerStep}
 use Rattle.handshake.proofs.Left.{sees, waits, leftWithin, left, finishes, few-left, finishes-few, one-fewer, someone-acts, finishes-moved}
 use Rattle.handshake.proofs.Left.{finishes-after, back-is-running}
-
--- by a test, one way or the other
-either-way : {A : Type 0} (b : Bool) → (b ≡ true → A) → (b ≡ false → A) → A
-either-way true f g = f refl
-either-way false f g = g refl
 
 -- steps after steps
 after-more : (a b : List End) (e : Ends) → after (map steps (a ++ b)) e ≡ after (map steps b) (after (map steps a) e)

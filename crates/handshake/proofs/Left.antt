@@ -9,7 +9,7 @@ use native.Mathlib.Omega.{arith}
 use borrow.Author.Tests.{leb-true, eqb-true, le-leb}
 use lib.Dec.{leb, eqb}
 use Rattle.octets.specs.Choice.{pick}
-use Rattle.octets.proofs.Choice.{both}
+use Rattle.octets.proofs.Choice.{both, implies, implied}
 use Rattle.mmbi.specs.declared.interface.Flags.{Flags}
 use Rattle.mmbi.specs.Interface.{sameFlags, normalRuntime}
 use Rattle.mmbi.proofs.States.{everyFlags, every-flags, same-flags-true}
@@ -54,24 +54,15 @@ left e = leftWithin 8 e
 abbrev ends : Flags → HostPhase → ControllerPhase → Ends
 ends f h c = record { flags = f; host = h; controller = c }
 
-abbrev everyEnds : (Ends → Bool) → Bool
+abbrev pub everyEnds : (Ends → Bool) → Bool
 everyEnds test = everyFlags (λ f. everyOf (λ h. everyOf (λ c. test (ends f h c)) controllers) hosts)
 
-every-ends : (test : Ends → Bool) → everyEnds test ≡ true → (e : Ends) → test e ≡ true
+pub every-ends : (test : Ends → Bool) → everyEnds test ≡ true → (e : Ends) → test e ≡ true
 every-ends test t e =
     every-controller (λ c. test (ends (e .flags) (e .host) c))
     (every-host (λ h. everyOf (λ c. test (ends (e .flags) h c)) controllers)
     (every-flags (λ f. everyOf (λ h. everyOf (λ c. test (ends f h c)) controllers) hosts) t (e .flags)) (e .host))
     (e .controller)
-
--- what is tested of each
-abbrev implies : Bool → Bool → Bool
-implies true b = b
-implies false b = true
-
-implied : (a b : Bool) → implies a b ≡ true → a ≡ true → b ≡ true
-implied true b i e = i
-implied false b i e = absurd (false≢true e)
 
 -- the way back can be gone to its end
 unfoldable pub finishes : Ends → Bool

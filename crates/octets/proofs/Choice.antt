@@ -17,6 +17,24 @@ pub pick-elim : {A : Type 0} (P : A → Type 0) (t : Bool) (x y : A) → (t ≡ 
 pick-elim P true x y f g = f refl
 pick-elim P false x y f g = g refl
 
+-- by a test, one way or the other
+pub either-way : {A : Type 0} (t : Bool) → (t ≡ true → A) → (t ≡ false → A) → A
+either-way true f g = f refl
+either-way false f g = g refl
+
+-- one test that holds only where the other does
+abbrev pub implies : Bool → Bool → Bool
+implies true b = b
+implies false b = true
+
+pub implied : (a b : Bool) → implies a b ≡ true → a ≡ true → b ≡ true
+implied true b i e = i
+implied false b i e = absurd (false≢true e)
+
+pub implied-not : (a b : Bool) → implies a b ≡ true → b ≡ false → a ≡ false
+implied-not true b i e = sym i ∙ e
+implied-not false b i e = refl
+
 -- both tests of a pair hold
 pub both : (a b : Bool) → (a && b) ≡ true → (a ≡ true) × (b ≡ true)
 both true b e = (refl, e)

@@ -23,7 +23,7 @@ use Rattle.ring.specs.Runs.{allSized, spaceFor, allBytes, Kept, pointerA
 use Rattle.ring.specs.Runs.{allReadable, andThen, readAll}
 use Rattle.ring.specs.Round.{roundFrom, stored}
 use Rattle.ring.specs.Writing as writing
-use Rattle.ring.proofs.Held.{Holds, holds-none, holds-written, holds-taken}
+use Rattle.ring.proofs.Held.{Holds, holds-none, none-held, holds-written, holds-taken}
 use Rattle.ring.proofs.Numbers.{set-up-facts, set-up-holds, pointers-facts, pointers-holds}
 use Rattle.ring.proofs.Numbers.{filled-below, filled-empty, filled-room, filled-written}
 use Rattle.ring.proofs.Readings as readings
@@ -95,15 +95,8 @@ module _ (most configured : ℕ) (ring : List ℕ) (write : ℕ) where
   -- after the last packet the answer is EMPTY
   pub all-read-empty : (read output : ℕ) → Holds most configured ring read write [] → 4 + most ≤ output
       → reading.foundOf most ring configured true read write output ≡ reading.empty
-  unfolding allBytes
   all-read-empty read output h room =
-      let under = filled-below configured read write (h .from .below) (h .to .below) in
-      let same = h .set-up .same in
-      let none : filledOf configured read write ≡ 0 =
-      sym
-      (length-take-le (filledOf configured read write) (roundFrom read ring) (omega (arith, round-length read ring)))
-      ∙ ap length (h .bytes) in
-      let equal = filled-empty configured read write (h .from .below) (h .to .below) none in
+      let equal = none-held most configured ring read write h in
       let right = set-up-holds most configured (length ring) (h .set-up) in
       let pointers = pointers-holds configured read write (h .from) (h .to) in
       readings.found-failing most ring configured true read write output 4

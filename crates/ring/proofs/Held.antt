@@ -19,7 +19,8 @@ use Rattle.ring.specs.Round.{roundFrom, stored}
 use Rattle.ring.proofs.Headers.{header-padding, header-type, header-whole, header-size, header-back, packet-back}
 use Rattle.ring.proofs.Headers.{bytes-length}
 use Rattle.mmbi.proofs.Pointers.{Pointer}
-use Rattle.ring.proofs.Numbers.{SetUp, filled-below, filled-near, filled-room, filled-written, filled-taken}
+use Rattle.ring.proofs.Numbers.{SetUp, filled-below, filled-empty, filled-near, filled-room, filled-written}
+use Rattle.ring.proofs.Numbers.{filled-taken}
 use Rattle.ring.proofs.Numbers.{next-right}
 use Rattle.ring.proofs.Numbers.{next-filled}
 use Rattle.ring.proofs.Readings.{Good}
@@ -47,6 +48,19 @@ holds-none most configured ring pointer set-up p =
       sized = refl;
       bytes = ap (λ (n : ℕ). take n (roundFrom pointer ring)) none;
     }
+
+-- and where nothing is held, they are equal
+pub none-held : (most configured : ℕ) (ring : List ℕ) (read write : ℕ) → Holds most configured ring read write []
+    → read ≡ write
+unfolding allBytes
+none-held most configured ring read write h =
+    let under = filled-below configured read write (h .from .below) (h .to .below) in
+    let same = h .set-up .same in
+    let none : filledOf configured read write ≡ 0 =
+    sym
+    (length-take-le (filledOf configured read write) (roundFrom read ring) (omega (arith, round-length read ring)))
+    ∙ ap length (h .bytes) in
+    filled-empty configured read write (h .from .below) (h .to .below) none
 
 sized-more : (most : ℕ) (packets : List (List ℕ)) (p : List ℕ) → allSized most packets ≡ true
     → sizeRight most (length p) ≡ true → allSized most (packets ++ (p ∷ [])) ≡ true

@@ -7,6 +7,7 @@ pub mod Answers
 pub mod Held
 pub mod RoundTrip
 pub mod Fifo
+pub mod Draining
 pub mod Layouts
 pub mod Ignored
 pub mod Literal

@@ -1,6 +1,6 @@
 -- Runs of writes and reads on one ring: what the laws on a good arrival and on first in, first out speak of.
 -- Assumes nothing.
-use Prim.Native.Nat.{ℕ, _+_}
+use Prim.Native.Nat.{ℕ, zero, suc, _+_}
 use mathlib.Core.Bool.{Bool, true, _&&_}
 use mathlib.Core.List.{List, [], _∷_, _++_}
 use lib.ListN.{length, take, replicate}
@@ -84,3 +84,27 @@ readAll most configured ring out write (flags ∷ states) read =
     andThen (reading.foundOf most ring configured readable read write (length out))
     (reading.outputOf most ring configured readable read write out)
     (readAll most configured ring out write states)
+
+-- what draining a ring gives: the packets, and the read pointer after them
+pub record Drained : Type 0 where
+  pub packets : List (List ℕ)
+  pub read : ℕ
+
+-- a packet goes before what is drained from the pointer after it; one that is skipped is passed over; else nothing more
+-- is read
+abbrev pub drainOn : reading.Found → (output : List ℕ) (read : ℕ) → (ℕ → Drained) → Drained
+drainOn (reading.packet size next) output read rest =
+    record { packets = take size output ∷ rest next .packets; read = rest next .read }
+drainOn reading.empty output read rest = record { packets = []; read = read }
+drainOn (reading.skipped number next) output read rest = rest next
+drainOn (reading.refused number) output read rest = record { packets = []; read = read }
+
+-- a ring read under these flags until it gives nothing more, by at most so many reads
+unfoldable pub drained : (most configured : ℕ) (ring out : List ℕ) (flags : Flags) (write : ℕ) → (reads read : ℕ)
+    → Drained
+drained most configured ring out flags write zero read = record { packets = []; read = read }
+drained most configured ring out flags write (suc reads) read =
+    let readable = mayRead (stateOf flags) in
+    drainOn (reading.foundOf most ring configured readable read write (length out))
+    (reading.outputOf most ring configured readable read write out)
+    read (drained most configured ring out flags write reads)
