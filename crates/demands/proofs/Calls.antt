@@ -20,8 +20,21 @@ use Rattle.pcc.proofs.packet.Reads as pcc-packet
 use Rattle.pcc.proofs.refusal.Reads as pcc-refusal
 use Rattle.pcc.proofs.notify.Reads as pcc-notify
 use Rattle.pcc.proofs.write.Reads as pcc-write
+use Rattle.mmbi.specs.Changes.{changedFlags}
 use Rattle.mmbi.specs.Interface.{stateOf, isTransient, mayWrite}
+use Rattle.mmbi.proofs.changed_flags.Reads as changed-flags
 use Rattle.mmbi.proofs.transient.Reads as transient
+use Rattle.handshake.specs.Phases.{hostNumber, hostRefusal, hostStored, hostAsked, storedRefusal, storedNumber}
+use Rattle.handshake.specs.Phases.{controllerNumber, controllerRefusal, controllerStored, controllerAsked}
+use Rattle.handshake.specs.Steps.{hostStep, controllerStep}
+use Rattle.handshake.proofs.host.HostPhase.step.Reads as host-step
+use Rattle.handshake.proofs.host.HostPhase.ask.Reads as host-ask
+use Rattle.handshake.proofs.host.HostPhase.number.Reads as host-number
+use Rattle.handshake.proofs.host.HostPhase.of_number.Reads as host-of-number
+use Rattle.handshake.proofs.controller.ControllerPhase.step.Reads as controller-step
+use Rattle.handshake.proofs.controller.ControllerPhase.ask.Reads as controller-ask
+use Rattle.handshake.proofs.controller.ControllerPhase.number.Reads as controller-number
+use Rattle.handshake.proofs.controller.ControllerPhase.of_number.Reads as controller-of-number
 use Rattle.ring.specs.Writing as putting
 use Rattle.ring.specs.Answers.{enteredIn}
 use Rattle.ring.proofs.write.Reads as ring-write
@@ -31,12 +44,13 @@ use Rattle.mctp.specs.Refusals.{outcomeNumber}
 use Rattle.slots.specs.Changes.{setUpRefusal, setUpOf}
 use Rattle.slots.proofs.set_up.Reads as set-up
 use Rattle.window.specs.Places.{refusalOf, placeIn, areaOf}
-use Rattle.window.specs.Words.{interfaceIn, storeRefusal, stored, storedPointer}
+use Rattle.window.specs.Words.{interfaceIn, storeRefusal, stored, storedPointer, storedFlags}
 use Rattle.window.proofs.refusal.Reads as window-refusal
 use Rattle.window.proofs.place_of.Reads as place-of
 use Rattle.window.proofs.area.Reads as area
 use Rattle.window.proofs.interface_of.Reads as interface-of
 use Rattle.window.proofs.store.Reads as store
+use Rattle.window.proofs.store_flags.Reads as store-flags
 use Rattle.window.proofs.store_pointer.Reads as store-pointer
 
 -- SMBus: a frame and the own address; an output, a packet, the destination's and the source's address
@@ -111,6 +125,43 @@ pub store-pointer-is : (κs : Lfts 1) (a r e : _) → store-pointer.Post κs a r
     → (r ≡ storeRefusal (length (a .0 .now)) (a .1 .0) (a .1 .1 .0) (a .1 .1 .1 .0))
     × (e .0 .now ≡ storedPointer (a .0 .now) (a .1 .0) (a .1 .1 .0) (a .1 .1 .1 .0))
 store-pointer-is κs a r e p = p
+
+pub store-flags-is : (κs : Lfts 1) (a : _) (r : _) (e : _) → store-flags.Post κs a r e
+    → (r ≡ refusalOf (length (a .0 .now)) (a .1 .0))
+    × (e .0 .now ≡ storedFlags (a .0 .now) (a .1 .0) (a .1 .1 .0))
+store-flags-is κs a r e p = p
+
+-- the handshake: a phase and the flags; a phase; a phase's number
+pub host-step-is : (κs : Lfts 0) (a r e : _) → host-step.Post κs a r e → r ≡ hostStep (a .0) (a .1 .0)
+host-step-is κs a r e p = p
+
+pub host-ask-is : (κs : Lfts 0) (a r e : _) → host-ask.Post κs a r e → r ≡ hostAsked (a .0)
+host-ask-is κs a r e p = p
+
+pub host-number-is : (κs : Lfts 0) (a r e : _) → host-number.Post κs a r e → r ≡ hostNumber (a .0)
+host-number-is κs a r e p = p
+
+pub host-of-number-is : (κs : Lfts 0) (a r e : _) → host-of-number.Post κs a r e
+    → (hostRefusal r ≡ storedRefusal 3 (a .0)) × (hostStored r ≡ storedNumber 3 (a .0))
+host-of-number-is κs a r e p = p
+
+pub controller-step-is : (κs : Lfts 0) (a r e : _) → controller-step.Post κs a r e
+    → r ≡ controllerStep (a .0) (a .1 .0)
+controller-step-is κs a r e p = p
+
+pub controller-ask-is : (κs : Lfts 0) (a r e : _) → controller-ask.Post κs a r e → r ≡ controllerAsked (a .0)
+controller-ask-is κs a r e p = p
+
+pub controller-number-is : (κs : Lfts 0) (a r e : _) → controller-number.Post κs a r e → r ≡ controllerNumber (a .0)
+controller-number-is κs a r e p = p
+
+pub controller-of-number-is : (κs : Lfts 0) (a r e : _) → controller-of-number.Post κs a r e
+    → (controllerRefusal r ≡ storedRefusal 6 (a .0)) × (controllerStored r ≡ storedNumber 6 (a .0))
+controller-of-number-is κs a r e p = p
+
+-- flags and a change of them
+pub changed-flags-is : (κs : Lfts 0) (a r e : _) → changed-flags.Post κs a r e → r ≡ changedFlags (a .1 .0) (a .0)
+changed-flags-is κs a r e p = p
 
 -- the interface's state; an own EID
 pub transient-is : (κs : Lfts 0) (a r e : _) → transient.Post κs a r e → r ≡ isTransient (a .0)

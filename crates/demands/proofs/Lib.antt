@@ -4,6 +4,8 @@ pub mod Outputs
 pub mod Arrivals
 pub mod CutRings
 pub mod Turns
+pub mod Resets
+pub mod ResetExamples
 pub mod Demands
 pub mod Calls
 pub mod Checked

@@ -6,20 +6,16 @@ use mathlib.Core.Bool.{Bool, true, false, not, _&&_, _||_, false≢true}
 use mathlib.Core.List.{List, [], _∷_, _++_, append-assoc, append-nil}
 use Prim.Native.Nat.{ℕ, _+_, _≤_}
 use native.Mathlib.Omega.{arith}
-use borrow.Author.Tests.{eq-eqb}
 use lib.Dec.{eqb}
 use lib.ListN.{length, replicate, length-replicate}
-use Rattle.octets.specs.Choice.{pick}
 use Rattle.octets.proofs.Choice.{both, pick-elim, either-way, implies, implied, implied-not, within-holds}
 use Rattle.mmbi.specs.declared.interface.Flags.{Flags}
 use Rattle.mmbi.specs.Interface.{sameFlags, normalRuntime, askedByHost, askedByController, allClear, stateOf, mayRead}
 use Rattle.mmbi.specs.Interface.{mayWrite}
-use Rattle.mmbi.specs.Pointers.{lengthRight, pointerRight}
+use Rattle.mmbi.specs.Pointers.{pointerRight}
 use Rattle.mmbi.proofs.Pointers.{pointer-facts}
 use Rattle.mmbi.proofs.States.{everyFlags, every-flags, same-flags-true}
-use Rattle.ring.specs.Layout.{wholeFor, ringBytes}
-use Rattle.ring.specs.Numbers.{setUpRight, nextOf}
-use Rattle.ring.specs.Round.{stored}
+use Rattle.ring.specs.Numbers.{setUpRight}
 use Rattle.ring.specs.Runs.{pointerAfter, wrote, Drained, drained}
 use Rattle.ring.specs.Writing.{Entered, entered, refused, enteredOf, ringAfter}
 use Rattle.ring.proofs.Draining.{few-held, all-drained, none-drained}
@@ -27,11 +23,12 @@ use Rattle.ring.proofs.Held.{Holds, holds-none, holds-written}
 use Rattle.ring.proofs.Numbers.{set-up-facts}
 use Rattle.ring.proofs.Writings.{good}
 use Rattle.handshake.specs.Phases.{controllerNumber}
-use Rattle.handshake.specs.Runs.{Ends, End, theHost, theController, stepped, asked}
+use Rattle.handshake.specs.Runs.{Ends, theHost, theController, stepped}
 use Rattle.handshake.specs.Steps.{hostStep, controllerStep}
 use Rattle.handshake.proofs.Left.{everyEnds, every-ends}
 use Rattle.demands.specs.Turns.{Queue, emptyAt, storedBy, put, drain, cleared, reinitializes, Link, Event, puts}
-use Rattle.demands.specs.Turns.{asks, turn, hostTurn, controllerTurn, happened, afterAll, startWith}
+use Rattle.demands.specs.Turns.{asks, turn, hostTurn, controllerTurn, happened, afterAll, startWith, ringRight}
+use Rattle.demands.specs.Turns.{AllGot, bothDrained}
 
 -- a ring in order: what was sent is what was got and what is held, and nothing is held where nothing may be
 record Kept (most : ℕ) (mayHold : Bool) (q : Queue) : Type 0 where
@@ -300,21 +297,25 @@ module _ (most : ℕ) (out : List ℕ) (room : 4 + most ≤ length out) where
   all-sound (event ∷ events) l s = all-sound events (happened most out event l) (happened-sound event l s)
 
 -- an empty ring is in order
-empty-kept : (most : ℕ) (ring : List ℕ) (pointer : ℕ) → setUpRight most (length ring) (length ring) ≡ true
-    → pointerRight (length ring) pointer ≡ true → Kept most false (emptyAt ring pointer)
-empty-kept most ring pointer right at =
+empty-kept : (most : ℕ) (ring : List ℕ) (pointer : ℕ) → ringRight most ring pointer ≡ true
+    → Kept most false (emptyAt ring pointer)
+empty-kept most ring pointer right =
+    let of = both (setUpRight most (length ring) (length ring)) (pointerRight (length ring) pointer) right in
     record {
       held = [];
       holds =
-          holds-none most (length ring) ring pointer (set-up-facts most (length ring) (length ring) right)
-          (pointer-facts (length ring) pointer at);
+          holds-none most (length ring) ring pointer (set-up-facts most (length ring) (length ring) (of .0))
+          (pointer-facts (length ring) pointer (of .1));
       all = refl;
       none = λ (e : _). refl;
     }
 
+all-got : (most : ℕ) (mayHold : Bool) (q : Queue) → mayHold ≡ false → Kept most mayHold q → q .got ≡ q .sent
+all-got most mayHold q n k =
+    sym (k .all ∙ ap (λ (s : List (List ℕ)). q .got ++ s) (k .none n) ∙ append-nil (q .got))
+
 module _ (most : ℕ) (out h2b : List ℕ) (h2bAt : ℕ) (b2h : List ℕ) (b2hAt : ℕ) (room : 4 + most ≤ length out)
-    (h2bRight : setUpRight most (length h2b) (length h2b) ≡ true) (h2bIn : pointerRight (length h2b) h2bAt ≡ true)
-    (b2hRight : setUpRight most (length b2h) (length b2h) ≡ true) (b2hIn : pointerRight (length b2h) b2hAt ≡ true)
+    (h2bRight : ringRight most h2b h2bAt ≡ true) (b2hRight : ringRight most b2h b2hAt ≡ true)
     (events : List Event) where
   abbrev now : Link
   now = afterAll most out events (startWith h2b h2bAt b2h b2hAt)
@@ -323,27 +324,25 @@ module _ (most : ℕ) (out h2b : List ℕ) (h2bAt : ℕ) (b2h : List ℕ) (b2hAt
   sound-now =
       all-sound most out room events (startWith h2b h2bAt b2h b2hAt)
       (record {
-        h2b = any-way most _ _ (empty-kept most h2b h2bAt h2bRight h2bIn);
-        b2h = any-way most _ _ (empty-kept most b2h b2hAt b2hRight b2hIn);
+        h2b = any-way most _ _ (empty-kept most h2b h2bAt h2bRight);
+        b2h = any-way most _ _ (empty-kept most b2h b2hAt b2hRight);
       })
 
-  all-got : (mayHold : Bool) (q : Queue) → mayHold ≡ false → Kept most mayHold q → q .got ≡ q .sent
-  all-got mayHold q n k =
-      sym (k .all ∙ ap (λ (s : List (List ℕ)). q .got ++ s) (k .none n) ∙ append-nil (q .got))
-
   -- when the controller reinitializes, every packet that was sent has been got
-  pub nothing-lost : reinitializes (now .ends) ≡ true
-      → (now .h2b .got ≡ now .h2b .sent) × (now .b2h .got ≡ now .b2h .sent)
+  pub nothing-lost : reinitializes (now .ends) ≡ true → AllGot now
   nothing-lost r =
       let none = none-at-zeros (now .ends) r in
-      (all-got _ (now .h2b) (none .0) (sound-now .h2b), all-got _ (now .b2h) (none .1) (sound-now .b2h))
+      record {
+        h2b = all-got most _ (now .h2b) (none .0) (sound-now .h2b);
+        b2h = all-got most _ (now .b2h) (none .1) (sound-now .b2h);
+      }
 
   -- and where a ring may be read, one more drain gets all that was sent until then
-  pub all-can-be-got : mayRead (stateOf (now .ends .flags)) ≡ true
-      → (drain most out (now .ends .flags) (now .h2b) .got ≡ now .h2b .sent)
-      × (drain most out (now .ends .flags) (now .b2h) .got ≡ now .b2h .sent)
+  pub all-can-be-got : mayRead (stateOf (now .ends .flags)) ≡ true → AllGot (bothDrained most out now)
+  unfolding drain
   all-can-be-got may =
-      let f = now .ends .flags in (
-        drain-gets most (h2bHolds f) out f (now .h2b) room (sound-now .h2b) may,
-        drain-gets most (b2hHolds f) out f (now .b2h) room (sound-now .b2h) may,
-      )
+      let f = now .ends .flags in
+      record {
+        h2b = drain-gets most (h2bHolds f) out f (now .h2b) room (sound-now .h2b) may;
+        b2h = drain-gets most (b2hHolds f) out f (now .b2h) room (sound-now .b2h) may;
+      }

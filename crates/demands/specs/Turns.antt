@@ -1,6 +1,7 @@
 -- Both ends at work on an interface with its two rings: packets written, resets asked for, and turns, in which an end
 -- drains the ring that it reads and makes its step of the reset handshake at one go (document 02, #104 and #105).
 -- Assumes nothing.
+use mathlib.Core.Path.{_≡_}
 use mathlib.Core.Bool.{Bool, _&&_}
 use mathlib.Core.List.{List, [], _∷_, _++_}
 use Prim.Native.Nat.{ℕ}
@@ -9,7 +10,9 @@ use lib.ListN.{length, replicate}
 use Rattle.octets.specs.Choice.{pick}
 use Rattle.mmbi.specs.declared.interface.Flags.{Flags}
 use Rattle.mmbi.specs.Interface.{sameFlags, allClear, stateOf, mayWrite}
-use Rattle.ring.specs.Runs.{Kept, wrote, Drained, drained}
+use Rattle.mmbi.specs.Pointers.{pointerRight}
+use Rattle.ring.specs.Numbers.{setUpRight}
+use Rattle.ring.specs.Runs.{wrote, drained}
 use Rattle.ring.specs.Writing.{Entered, entered, refused, enteredOf}
 use Rattle.handshake.specs.Phases.{controllerNumber}
 use Rattle.handshake.specs.Runs.{Ends, End, theHost, theController, stepped, asked, running}
@@ -124,3 +127,21 @@ afterAll most out (event ∷ events) l = afterAll most out events (happened most
 -- normal runtime, both rings empty
 abbrev pub startWith : (h2b : List ℕ) (h2bAt : ℕ) (b2h : List ℕ) (b2hAt : ℕ) → Link
 startWith h2b h2bAt b2h b2hAt = record { ends = running; h2b = emptyAt h2b h2bAt; b2h = emptyAt b2h b2hAt }
+
+-- a ring that the ring calls take, and a pointer into it
+abbrev pub ringRight : (most : ℕ) (ring : List ℕ) (pointer : ℕ) → Bool
+ringRight most ring pointer = setUpRight most (length ring) (length ring) && pointerRight (length ring) pointer
+
+-- every packet that was stored in a ring has been read out of it, in the same order
+pub record AllGot (l : Link) : Type 0 where
+  pub h2b : l .h2b .got ≡ l .h2b .sent
+  pub b2h : l .b2h .got ≡ l .b2h .sent
+
+-- both rings drained as they stand
+abbrev pub bothDrained : (most : ℕ) (out : List ℕ) → Link → Link
+bothDrained most out l =
+    record {
+      ends = l .ends;
+      h2b = drain most out (l .ends .flags) (l .h2b);
+      b2h = drain most out (l .ends .flags) (l .b2h);
+    }

@@ -1,11 +1,9 @@
 -- Neither end writes the other's flags, whatever it sees, but for the controller's one step that clears the host's.
 -- Assumes nothing.
 use mathlib.Core.Path.{_≡_, refl, sym, _∙_}
-use mathlib.Core.Bool.{Bool, true, false, false≢true}
-use Rattle.octets.specs.Choice.{pick}
+use mathlib.Core.Bool.{true, false, false≢true}
 use Rattle.octets.proofs.Choice.{pick-elim}
 use Rattle.mmbi.specs.declared.change.Act.the-variants.{ClearBoth}
-use Rattle.mmbi.specs.declared.change.Change.{Change}
 use Rattle.mmbi.specs.declared.change.Change.the-variants.{Host}
 use Rattle.mmbi.specs.declared.interface.Flags.{Flags}
 use Rattle.handshake.specs.declared.host.HostPhase.{HostPhase}

@@ -1,13 +1,13 @@
 -- A ring that is drained where it may be read gives all that it holds, in order, and is then empty; where it may not be
 -- read, nothing is taken.
 -- Assumes nothing.
-use mathlib.Core.Path.{_≡_, refl, ap, sym, _∙_}
+use mathlib.Core.Path.{_≡_, refl, ap, _∙_}
 use mathlib.Core.Bool.{true, false}
-use mathlib.Core.List.{List, [], _∷_, _++_}
+use mathlib.Core.List.{List, [], _∷_}
 use Prim.Native.Nat.{ℕ, zero, suc, _+_, _≤_, _<_}
 use native.Mathlib.Omega.{arith}
 use borrow.Author.Tests.{le-leb}
-use lib.ListN.{length, take, drop, length-append}
+use lib.ListN.{length, drop, length-append}
 use lib.Seq.{length-take-le, take-at}
 use Rattle.octets.specs.Bytes.{fronted}
 use Rattle.mmbi.specs.declared.interface.Flags.{Flags}
@@ -16,7 +16,7 @@ use Rattle.ring.specs.Numbers.{filledOf, nextOf}
 use Rattle.ring.specs.Layout.{wholeFor, ringBytes}
 use Rattle.ring.specs.Reading as reading
 use Rattle.ring.specs.Round.{roundFrom}
-use Rattle.ring.specs.Runs.{allBytes, Drained, drainOn, drained}
+use Rattle.ring.specs.Runs.{allBytes, drainOn, drained}
 use Rattle.ring.proofs.Fifo.{all-read-empty}
 use Rattle.ring.proofs.Headers.{bytes-length}
 use Rattle.ring.proofs.Held.{Holds, none-held, holds-taken}

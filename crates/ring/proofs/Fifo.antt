@@ -8,7 +8,7 @@ use Prim.Native.Nat.{ℕ, _+_, _≤_}
 use native.Mathlib.Omega.{arith}
 use borrow.Author.Tests.{le-leb, eq-eqb}
 use lib.ListN.{length, take, drop}
-use lib.Seq.{length-take-le, take-at, take-length}
+use lib.Seq.{take-at, take-length}
 use Rattle.octets.specs.Bytes.{fronted}
 use Rattle.octets.proofs.Choice.{both, within-bounds}
 use Rattle.mctp.specs.Packet.{sizeRight}
@@ -25,10 +25,9 @@ use Rattle.ring.specs.Round.{roundFrom, stored}
 use Rattle.ring.specs.Writing as writing
 use Rattle.ring.proofs.Held.{Holds, holds-none, none-held, holds-written, holds-taken}
 use Rattle.ring.proofs.Numbers.{set-up-facts, set-up-holds, pointers-facts, pointers-holds}
-use Rattle.ring.proofs.Numbers.{filled-below, filled-empty, filled-room, filled-written}
+use Rattle.ring.proofs.Numbers.{filled-room, filled-written}
 use Rattle.ring.proofs.Readings as readings
 use Rattle.ring.proofs.RoundTrip.{read-first, room-none}
-use Rattle.ring.proofs.Rounds.{round-length}
 use Rattle.ring.proofs.Writings as writings
 
 -- packets written in a state that lets a ring be written

@@ -15,7 +15,6 @@ use Rattle.octets.proofs.Words.{word-below}
 use Rattle.mmbi.specs.declared.change.Act.{Act}
 use Rattle.mmbi.specs.declared.change.Change.{Change}
 use Rattle.mmbi.specs.declared.change.Change.the-variants.{Nothing, Host, Controller}
-use Rattle.mmbi.specs.declared.interface.Flags.{Flags}
 use Rattle.mmbi.specs.declared.word.Word.{Word}
 use Rattle.mmbi.specs.Changes.{changedFlags, changedWord}
 use Rattle.mmbi.specs.Words.{wordOf}
@@ -26,10 +25,9 @@ use Rattle.descriptor.specs.Configuration.{areaPlace, isRing, allowed}
 use Rattle.descriptor.proofs.Places.{Apart}
 use Rattle.window.specs.declared.word.Pointer.{Pointer}
 use Rattle.window.specs.declared.word.Pointer.the-variants.{H2bWrite, B2hRead, B2hWrite, H2bRead}
-use Rattle.window.specs.declared.word.Interface.{Interface}
 use Rattle.window.specs.Places.{refusalOf, areaOf}
 use Rattle.window.specs.Words.{wordPlace, hasUp, cleared, wordWhere, wordIn, interfaceIn, withFlags, withChange}
-use Rattle.window.specs.Words.{withWord, storedFlags}
+use Rattle.window.specs.Words.{withWord, storedFlags, reflagged}
 use Rattle.window.proofs.Interfaces.{pointer-aligned}
 use Rattle.window.proofs.Stores.{with-word-length, with-word-keeps-others, with-word-back}
 use Rattle.window.proofs.Stores.{with-word-keeps-area, with-word-keeps-rings}
@@ -98,17 +96,6 @@ unfolding cleared
 both-flags p up w =
     let bit1 : (w .bit1 && hasUp p) ≡ w .bit1 = rw up (and-true (w .bit1)) in
     λ i. record { pointer = w .pointer; bit1 = bit1 i; bit0 = w .bit0 }
-
--- other flags, all else as it was
-abbrev pub reflagged : Interface → Flags → Interface
-reflagged i f =
-    record {
-      flags = f;
-      b2h = i .b2h;
-      h2b = i .h2b;
-      «host_ready» = i .«host_ready»;
-      «controller_ready» = i .«controller_ready»;
-    }
 
 -- a window of bytes, with a configuration that it allows
 module _ (s : List ℕ) (c : Configuration) (bytes : Below 256 s) (ok : allowed (length s) c ≡ true) where

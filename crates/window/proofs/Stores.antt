@@ -18,7 +18,7 @@ use Rattle.octets.proofs.Laid.{laid-length}
 use Rattle.mmbi.specs.declared.word.Word.{Word}
 use Rattle.mmbi.specs.Pointers.{pointerRight}
 use Rattle.mmbi.specs.Words.{wordOf, numberOf}
-use Rattle.mmbi.proofs.Pointers.{Pointer as In, pointer-facts}
+use Rattle.mmbi.proofs.Pointers.{Pointer as In, pointer-facts, pointer-holds}
 use Rattle.mmbi.proofs.Words.{word-back, number-below}
 use Rattle.descriptor.specs.declared.configuration.Configuration.{Configuration}
 use Rattle.descriptor.specs.declared.configuration.Area.{Area}
@@ -141,6 +141,14 @@ module _ (window : ℕ) (c : Configuration) (p : Pointer) (at : ℕ) where
   store-facts e =
       let held = all-hold (λ (n : ℕ). eqb n 0) (storeOrder window c p at) 0 refl (eq-eqb _ 0 e) in
       (held .0, pointer-facts ring at (held .1 .0))
+
+-- 0 is a pointer of every ring, so a reset that stores it is never refused with 12
+pub zero-stored : (window : ℕ) (c : Configuration) (p : Pointer) → allowed window c ≡ true
+    → storeRefusal window c p 0 ≡ 0
+zero-stored window c p ok =
+    let right = ring-right window c (pointsInto p) (points-into-ring p) (allowed-facts window c ok) in
+    let long = length-facts (areaPlace c (pointsInto p) .length) right .low in
+    store-good window c p 0 ok (pointer-holds (ring window c p 0) 0 (record { fours = refl; below = omega (arith, long) }))
 
 -- a word stored
 module _ (s : List ℕ) (c : Configuration) (p : Pointer) (w : Word) where

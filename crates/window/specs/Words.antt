@@ -12,6 +12,7 @@ use Rattle.octets.specs.Words.{highFirst, wordAt, wordBytes}
 use Rattle.mmbi.specs.declared.change.Act.{Act}
 use Rattle.mmbi.specs.declared.change.Change.{Change}
 use Rattle.mmbi.specs.declared.change.Change.the-variants.{Nothing, Host, Controller}
+use Rattle.mmbi.specs.declared.interface.Flags.{Flags}
 use Rattle.mmbi.specs.declared.word.Word.{Word}
 use Rattle.mmbi.specs.Changes.{changedWord}
 use Rattle.mmbi.specs.Interface.{flagsOf}
@@ -110,3 +111,14 @@ withChange s c (Controller act) = withFlags s c B2hWrite act
 -- configuration is refused nothing is stored
 unfoldable pub storedFlags : List ℕ → Configuration → Change → List ℕ
 storedFlags s c change = pick (allowed (length s) c) (withChange s c change) s
+
+-- what the words then say: other flags, all else as it was
+abbrev pub reflagged : Interface → Flags → Interface
+reflagged i f =
+    record {
+      flags = f;
+      b2h = i .b2h;
+      h2b = i .h2b;
+      «host_ready» = i .«host_ready»;
+      «controller_ready» = i .«controller_ready»;
+    }
