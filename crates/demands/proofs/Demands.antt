@@ -2,7 +2,7 @@
 -- cite. 64 is the base's largest body.
 -- Assumes nothing.
 use mathlib.Core.Path.{_≡_, refl, ap}
-use mathlib.Core.Bool.{Bool, true}
+use mathlib.Core.Bool.{Bool, true, false}
 use mathlib.Core.List.{List, [], _∷_, _++_, map}
 use Prim.Native.Nat.{ℕ, _+_, _≤_, _<_}
 use lib.Dec.{lit≤}
@@ -25,12 +25,14 @@ use Rattle.pcc.proofs.Writings.{written-whole, written-refused}
 use Rattle.descriptor.specs.declared.configuration.Area.{Area}
 use Rattle.descriptor.specs.declared.configuration.Configuration.{Configuration}
 use Rattle.descriptor.specs.Reading.{found, describedOf}
-use Rattle.descriptor.specs.Configuration.{isRing, areaPlace}
+use Rattle.descriptor.specs.Configuration.{isRing, areaPlace, allowed}
 use Rattle.window.specs.declared.word.Pointer.{Pointer}
 use Rattle.window.specs.Places.{areaOf}
-use Rattle.window.specs.Words.{storeRefusal, stored, storedPointer}
+use Rattle.window.specs.Words.{storeRefusal, stored, storedPointer, storedFlags}
 use Rattle.window.specs.PutBack.{RingChanged}
+use Rattle.window.proofs.Flags.{flags-refused}
 use Rattle.window.proofs.Stores.{stored-refused, pointer-refused}
+use Rattle.mmbi.specs.declared.change.Change.{Change}
 use Rattle.mmbi.specs.declared.word.Word.{Word}
 use Rattle.mmbi.specs.Interface.{normalRuntime, askedByHost, askedByController, stateOf, mayRead, mayWrite}
 use Rattle.mmbi.specs.declared.interface.Flags.{Flags}
@@ -144,6 +146,11 @@ pub pointer-not-stored : (window : List ℕ) (c : Configuration) (which : Pointe
     → (storeRefusal (length window) c which pointer ≡ 0 → ⊥)
     → storedPointer window c which pointer ≡ window
 pointer-not-stored = pointer-refused
+
+-- and the flags of a step, where the configuration is refused
+pub flags-not-stored : (window : List ℕ) (c : Configuration) (change : Change) → allowed (length window) c ≡ false
+    → storedFlags window c change ≡ window
+flags-not-stored = flags-refused
 
 -- a refused writer leaves what was lent to it
 pub frame-not-written : (out p : List ℕ) (destination source : ℕ)

@@ -24,6 +24,8 @@ use Rattle.pcc.specs.Layout.{regionFor, regionOf, regionWith}
 use Rattle.pcc.specs.Reading as pcc
 use Rattle.pcc.specs.Writing as regions
 use Rattle.pcc.proofs.RoundTrip.{every-number}
+use Rattle.mmbi.specs.declared.change.Act.the-variants.{ClearUp}
+use Rattle.mmbi.specs.declared.change.Change.the-variants.{Controller}
 use Rattle.mmbi.specs.declared.interface.Flags.{Flags}
 use Rattle.mmbi.specs.Interface.{flagsOf, normalRuntime, askedByHost, askedByController, stateOf, mayRead, mayWrite}
 use Rattle.descriptor.specs.declared.configuration.Area.the-variants.{B2h}
@@ -138,6 +140,15 @@ not-stored =
 pub pointer-not-stored : words.storedPointer windowImage imageConfiguration H2bWrite 2 ≡ windowImage
 pointer-not-stored =
     demands.pointer-not-stored windowImage imageConfiguration H2bWrite 2 (λ e. omega (arith, no-pointer))
+
+-- a window without its last byte
+too-short : allowed 339 imageConfiguration ≡ false
+unfolding allowed inside clear
+too-short = refl
+
+pub flags-not-stored : words.storedFlags (take 339 windowImage) imageConfiguration (Controller ClearUp)
+    ≡ take 339 windowImage
+flags-not-stored = demands.flags-not-stored (take 339 windowImage) imageConfiguration (Controller ClearUp) too-short
 
 -- no room for a frame, nor for a region; a ring that isn't running
 no-room : (frames.writeRefusal 64 0 5 32 17 ≡ 2) × (regions.writeRefusal 64 0 3 5 ≡ 2)

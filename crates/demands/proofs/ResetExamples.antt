@@ -1,7 +1,7 @@
 -- No premise is empty: each theorem of Resets that has one, used on an input that meets all of its premises at once.
 -- Assumes nothing.
 use mathlib.Core.Path.{_≡_, refl, _∙_}
-use mathlib.Core.Bool.{true}
+use mathlib.Core.Bool.{true, false}
 use mathlib.Core.List.{List, [], _∷_, _++_}
 use mathlib.Core.Logic.{inl}
 use Prim.Native.Nat.{ℕ}
@@ -27,7 +27,7 @@ use Rattle.handshake.specs.declared.controller.ControllerPhase.the-variants as 
 use Rattle.handshake.specs.declared.host.HostPhase.the-variants as host
 use Rattle.handshake.specs.Order.{KeepsHost}
 use Rattle.handshake.specs.Runs.{theHost, theController, inTurn, Move, steps, asks, after, running, hostAsks}
-use Rattle.handshake.specs.Runs.{asking, BackWithin}
+use Rattle.handshake.specs.Runs.{asking, BackWithin, misled, beyondHelp}
 use Rattle.handshake.specs.Steps.{hostStep, hostWaits, controllerStep, controllerWaits}
 use Rattle.handshake.proofs.Fair.{in-turn-fair}
 use Rattle.demands.specs.Turns as turns
@@ -68,6 +68,17 @@ again =
 
 pub nothing-is-stuck : BackWithin 16 (inTurn theHost 16) (after again running)
 nothing-is-stuck = resets.nothing-is-stuck again 2 (inTurn theHost 16) (in-turn-fair theHost 16) (lit≤ tt)
+
+-- a controller that is to ask in normal runtime is shown all ones
+pub one-wrong-sight-is-survived : BackWithin 16 (inTurn theHost 16)
+    (misled theController acknowledged (after (asks theController ∷ []) running))
+unfolding after
+one-wrong-sight-is-survived =
+    resets.one-wrong-sight-is-survived (asks theController ∷ []) theController acknowledged to-ask 2 (inTurn theHost 16)
+    (in-turn-fair theHost 16) (lit≤ tt)
+  where
+    to-ask : beyondHelp theController acknowledged (after (asks theController ∷ []) running) ≡ false
+    to-ask = refl
 
 -- the window of document 003's tables, written out: H_RST set
 image-allowed : allowed (length windowImage) imageConfiguration ≡ true

@@ -22,11 +22,13 @@ use Rattle.handshake.specs.declared.controller.ControllerPhase.{ControllerPhase
 use Rattle.handshake.specs.declared.host.HostPhase.{HostPhase}
 use Rattle.handshake.specs.Order.{hostOrder, controllerOrder, inOrder, KeepsController, KeepsHost, clearsHost}
 use Rattle.handshake.specs.Runs.{End, Move, after, running, Asker, asking, ComesBack, Fair, BackWithin}
+use Rattle.handshake.specs.Runs.{misled, beyondHelp}
 use Rattle.handshake.specs.Steps.{hostStep, hostWaits, controllerStep, controllerWaits}
 use Rattle.handshake.proofs.Fair.{back-from-asking, back-from-anywhere}
 use Rattle.handshake.proofs.Own.{host-writes-its-own, controller-writes-its-own, controller-clears-the-host}
 use Rattle.handshake.proofs.Turns.{back-in-turn}
 use Rattle.handshake.proofs.Waiting.{host-waits, controller-waits}
+use Rattle.handshake.proofs.WrongSights.{back-after-a-wrong-sight}
 use Rattle.demands.specs.Turns.{Event, reinitializes, afterAll, startWith, ringRight, AllGot, bothDrained}
 use Rattle.demands.proofs.Turns.{nothing-lost, all-can-be-got}
 
@@ -68,6 +70,14 @@ it-comes-back-in-any-fair-order = back-from-asking
 pub nothing-is-stuck : (history : List Move) (k : ℕ) (order : List End) → Fair k order → 8 * k ≤ length order
     → BackWithin (8 * k) order (after history running)
 nothing-is-stuck = back-from-anywhere
+
+-- nor is anything after one wrong sight of the flags, whichever end's and whatever it is shown, but for a few that are
+-- named
+pub one-wrong-sight-is-survived : (history : List Move) (end : End) (seen : Flags)
+    → beyondHelp end seen (after history running) ≡ false
+    → (k : ℕ) (order : List End) → Fair k order → 8 * k ≤ length order
+    → BackWithin (8 * k) order (misled end seen (after history running))
+one-wrong-sight-is-survived = back-after-a-wrong-sight
 
 -- what a step says, stored in a window: the flags that are read there next are the changed ones, and every pointer is as
 -- it was, right for its ring or not, so that a reset can cure a broken one. Document 01 lets the two structures overlap;

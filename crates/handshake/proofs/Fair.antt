@@ -145,7 +145,7 @@ back-from-asking asker k order fair long =
     back-within k 7 order (asking asker) (finishes-few (asking asker) (omega arith)) (omega arith) fair long
 
 -- from whatever steps and asks lead to, and so nothing that can be reached is stuck
-running-finishes : finishes running ≡ true
+pub running-finishes : finishes running ≡ true
 unfolding finishes left leftWithin
 running-finishes = refl
 

@@ -4,5 +4,6 @@ pub mod Own
 pub mod Turns
 pub mod Left
 pub mod Fair
+pub mod WrongSights
 pub mod Literal
 pub mod Determined

@@ -10,7 +10,7 @@ use lib.ListN.{length, take, drop}
 use Rattle.octets.specs.Choice.{pick}
 use Rattle.mmbi.specs.declared.interface.Flags.{Flags}
 use Rattle.mmbi.specs.Changes.{changedFlags}
-use Rattle.mmbi.specs.Interface.{sameFlags, normalRuntime, acknowledged, allClear}
+use Rattle.mmbi.specs.Interface.{sameFlags, normalRuntime, askedByHost, acknowledged, completed, allClear}
 use Rattle.handshake.specs.declared.host.HostPhase.{HostPhase}
 use Rattle.handshake.specs.declared.host.HostPhase.the-variants as host
 use Rattle.handshake.specs.declared.host.HostStep.{HostStep}
@@ -135,3 +135,16 @@ pub record BackWithin (most : ℕ) (order : List End) (e : Ends) : Type 0 where
   pub count : ℕ
   pub soon : count ≤ most
   pub back : after (map steps (take count order)) e ≡ running
+
+-- a step on flags that aren't those that stand there
+abbrev pub misled : End → Flags → Ends → Ends
+misled theHost seen e = hostLeaves (hostStep (e .host) seen) e
+misled theController seen e = controllerLeaves (controllerStep (e .controller) seen) e
+
+-- what no waiting can save: the host in phase waiting is shown 1000; the controller in phase asked 1111, and at 1000, while
+-- the host isn't up yet, a reset asked for or normal runtime
+abbrev pub beyondHelp : End → Flags → Ends → Bool
+beyondHelp theHost seen e = eqb (hostNumber (e .host)) 2 && sameFlags seen completed
+beyondHelp theController seen e =
+    (eqb (controllerNumber (e .controller)) 2 && sameFlags seen acknowledged)
+    || (sameFlags (e .flags) completed && (sameFlags seen askedByHost || sameFlags seen normalRuntime))

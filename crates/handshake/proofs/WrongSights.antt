@@ -1,0 +1,67 @@
+-- One wrong sight of the flags, by either end, leaves a way back, but for the few that are named.
+-- Assumes nothing.
+use mathlib.Core.Path.{_≡_, refl, ap}
+use mathlib.Core.Bool.{Bool, true, false, not, _&&_}
+use mathlib.Core.List.{List, [], _∷_, map}
+use Prim.Native.Nat.{ℕ, _*_, _≤_}
+use lib.ListN.{length}
+use Rattle.octets.proofs.Choice.{both, implies, implied}
+use Rattle.mmbi.specs.declared.interface.Flags.{Flags}
+use Rattle.mmbi.specs.Interface.{askedByHost, askedByController, acknowledged, completed}
+use Rattle.mmbi.proofs.States.{everyFlags, every-flags}
+use Rattle.handshake.specs.declared.controller.ControllerPhase.the-variants as controller
+use Rattle.handshake.specs.declared.host.HostPhase.the-variants as host
+use Rattle.handshake.specs.Runs.{Ends, End, theHost, theController, Move, after, running, Fair, BackWithin, misled}
+use Rattle.handshake.specs.Runs.{beyondHelp}
+use Rattle.handshake.specs.Steps.{hostStep, controllerStep}
+use Rattle.handshake.proofs.Fair.{back-within, running-finishes}
+use Rattle.handshake.proofs.Left.{everyEnds, every-ends, leftWithin, left, finishes, few-left, finishes-after}
+
+-- where the way back can be gone, it still can after a step on any flags, but for those beyond help
+abbrev helped : End → Flags → Ends → Bool
+helped end seen e = implies (not (beyondHelp end seen e)) (finishes (misled end seen e))
+
+abbrev sightsTest : Ends → Bool
+sightsTest e = implies (finishes e) (everyFlags (λ seen. helped theHost seen e && helped theController seen e))
+
+sights-tested : everyEnds sightsTest ≡ true
+unfolding finishes left leftWithin hostStep controllerStep
+sights-tested = refl
+
+each-helped : (seen : Flags) (e : Ends) → finishes e ≡ true
+    → (helped theHost seen e ≡ true) × (helped theController seen e ≡ true)
+each-helped seen e can =
+    both (helped theHost seen e) (helped theController seen e)
+    (every-flags (λ f. helped theHost f e && helped theController f e)
+    (implied (finishes e) _ (every-ends sightsTest sights-tested e) can) seen)
+
+still-finishes : (end : End) (seen : Flags) (e : Ends) → finishes e ≡ true → beyondHelp end seen e ≡ false
+    → finishes (misled end seen e) ≡ true
+still-finishes theHost seen e can n =
+    implied (not (beyondHelp theHost seen e)) _ (each-helped seen e can .0) (ap not n)
+still-finishes theController seen e can n =
+    implied (not (beyondHelp theController seen e)) _ (each-helped seen e can .1) (ap not n)
+
+pub back-after-a-wrong-sight : (history : List Move) (end : End) (seen : Flags)
+    → beyondHelp end seen (after history running) ≡ false
+    → (k : ℕ) (order : List End) → Fair k order → 8 * k ≤ length order
+    → BackWithin (8 * k) order (misled end seen (after history running))
+back-after-a-wrong-sight history end seen n k order fair long =
+    let now = misled end seen (after history running) in
+    let can = still-finishes end seen (after history running) (finishes-after history running running-finishes) n in
+    back-within k 8 order now can (few-left now can) fair long
+
+-- the named ones are beyond help: the host that waits at its own ask is shown 1000; the controller that asked is shown
+-- 1111; the controller at 1000 is shown 1011
+abbrev lost : List Ends
+lost =
+    misled theHost completed (record { flags = askedByHost; host = host.Waiting; controller = controller.Running })
+    ∷ misled theController acknowledged
+    (record { flags = askedByController; host = host.Running; controller = controller.Asked })
+    ∷ misled theController askedByHost
+    (record { flags = completed; host = host.Waiting; controller = controller.Running })
+    ∷ []
+
+pub named-are-lost : map finishes lost ≡ false ∷ false ∷ false ∷ []
+unfolding finishes left leftWithin hostStep controllerStep
+named-are-lost = refl
