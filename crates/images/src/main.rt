@@ -8,10 +8,7 @@ mod windows;
 mod words;
 
 use descriptors::FAR;
-use rings::ACKNOWLEDGED;
-use rings::CONTROLLER_ASKS;
-use rings::HOST_ASKS;
-use rings::RUNNING;
+use mmbi::Flags;
 
 // The words around the images. A byte of 0x80 or more stands for an image, or for what reading it tells.
 const PACKETS: [u8; 1490] = *b"SMBus
@@ -156,25 +153,25 @@ fn show_packet(place: u8) {
         0x92 => regions::read(84, 4),
         0x93 => regions::read(84, 256),
         0x94 => regions::read(83, 3),
-        0xA0 => rings::write(0, 0, RUNNING),
+        0xA0 => rings::write(0, 0, Flags::NORMAL_RUNTIME),
         0xA1 => rings::show(0, 0, 12),
         0xA2 => rings::show(0, 12, 16),
-        0xA3 => rings::read(0, 0, 12, RUNNING),
-        0xA4 => rings::read(0, 12, 12, RUNNING),
-        0xA5 => rings::read(0, 0, 8, RUNNING),
-        0xA6 => rings::read(0, 2, 12, RUNNING),
-        0xA7 => rings::read(0, 0, 128, RUNNING),
-        0xA8 => rings::read(0, 0, 12, HOST_ASKS),
-        0xA9 => rings::read(0, 0, 12, CONTROLLER_ASKS),
-        0xAA => rings::read(0, 0, 12, ACKNOWLEDGED),
-        0xAB => rings::write(0, 0, HOST_ASKS),
-        0xAC => rings::write(0, 0, CONTROLLER_ASKS),
-        0xB0 => rings::write(12, 0, RUNNING),
-        0xB1 => rings::write(16, 0, RUNNING),
-        0xB2 => rings::write(120, 120, RUNNING),
+        0xA3 => rings::read(0, 0, 12, Flags::NORMAL_RUNTIME),
+        0xA4 => rings::read(0, 12, 12, Flags::NORMAL_RUNTIME),
+        0xA5 => rings::read(0, 0, 8, Flags::NORMAL_RUNTIME),
+        0xA6 => rings::read(0, 2, 12, Flags::NORMAL_RUNTIME),
+        0xA7 => rings::read(0, 0, 128, Flags::NORMAL_RUNTIME),
+        0xA8 => rings::read(0, 0, 12, Flags::ASKED_BY_HOST),
+        0xA9 => rings::read(0, 0, 12, Flags::ASKED_BY_CONTROLLER),
+        0xAA => rings::read(0, 0, 12, Flags::ACKNOWLEDGED),
+        0xAB => rings::write(0, 0, Flags::ASKED_BY_HOST),
+        0xAC => rings::write(0, 0, Flags::ASKED_BY_CONTROLLER),
+        0xB0 => rings::write(12, 0, Flags::NORMAL_RUNTIME),
+        0xB1 => rings::write(16, 0, Flags::NORMAL_RUNTIME),
+        0xB2 => rings::write(120, 120, Flags::NORMAL_RUNTIME),
         0xB3 => rings::show(120, 120, 128),
         0xB4 => rings::show(120, 0, 4),
-        _ => rings::read(120, 120, 4, RUNNING),
+        _ => rings::read(120, 120, 4, Flags::NORMAL_RUNTIME),
     }
 }
 

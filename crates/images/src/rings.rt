@@ -5,35 +5,6 @@ use mmbi::Pointers;
 use ring::Carried;
 use ring::Written;
 
-// 1010, 1011, 1110 and 1111.
-pub const RUNNING: Flags = Flags {
-    controller_up: true,
-    controller_reset: false,
-    host_up: true,
-    host_reset: false,
-};
-
-pub const HOST_ASKS: Flags = Flags {
-    controller_up: true,
-    controller_reset: false,
-    host_up: true,
-    host_reset: true,
-};
-
-pub const CONTROLLER_ASKS: Flags = Flags {
-    controller_up: true,
-    controller_reset: true,
-    host_up: true,
-    host_reset: false,
-};
-
-pub const ACKNOWLEDGED: Flags = Flags {
-    controller_up: true,
-    controller_reset: true,
-    host_up: true,
-    host_reset: true,
-};
-
 fn store(bytes: &mut [u8], read: usize, write: usize, flags: Flags) -> Written {
     let packet = crate::ORDER;
     ring::write(bytes, 128, flags, Pointers { read, write }, &packet)
@@ -51,14 +22,14 @@ pub fn write(read: usize, write: usize, flags: Flags) {
 // Some bytes of a ring whose packet was written at a pointer.
 pub fn show(pointer: usize, from: usize, to: usize) {
     let mut bytes = [0xFFu8; 128];
-    store(&mut bytes, pointer, pointer, RUNNING);
+    store(&mut bytes, pointer, pointer, Flags::NORMAL_RUNTIME);
     text::show(&bytes, from, to);
 }
 
 // What reading such a ring tells.
 pub fn read(pointer: usize, read: usize, write: usize, flags: Flags) {
     let mut bytes = [0xFFu8; 128];
-    store(&mut bytes, pointer, pointer, RUNNING);
+    store(&mut bytes, pointer, pointer, Flags::NORMAL_RUNTIME);
     let mut packet = [0u8; 68];
     let carried = ring::read(&bytes, 128, flags, Pointers { read, write }, &mut packet);
     tell(carried, &packet);
