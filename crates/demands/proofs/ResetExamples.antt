@@ -26,8 +26,8 @@ use Rattle.ring.specs.Writing.{enteredOf}
 use Rattle.handshake.specs.declared.controller.ControllerPhase.the-variants as controller
 use Rattle.handshake.specs.declared.host.HostPhase.the-variants as host
 use Rattle.handshake.specs.Order.{KeepsHost}
-use Rattle.handshake.specs.Runs.{theHost, theController, inTurn, Move, steps, asks, after, running, hostAsks}
-use Rattle.handshake.specs.Runs.{asking, BackWithin, misled, beyondHelp}
+use Rattle.handshake.specs.Back.{inTurn, hostAsks, asking, BackWithin, misled, beyondHelp}
+use Rattle.handshake.specs.Runs.{theHost, theController, Move, steps, asks, after, running}
 use Rattle.handshake.specs.Steps.{hostStep, hostWaits, controllerStep, controllerWaits}
 use Rattle.handshake.proofs.Fair.{in-turn-fair}
 use Rattle.demands.specs.Turns as turns

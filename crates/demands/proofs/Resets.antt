@@ -20,9 +20,9 @@ use Rattle.window.specs.Words.{interfaceIn, storedFlags, reflagged}
 use Rattle.window.proofs.Flags.{flags-changed}
 use Rattle.handshake.specs.declared.controller.ControllerPhase.{ControllerPhase}
 use Rattle.handshake.specs.declared.host.HostPhase.{HostPhase}
-use Rattle.handshake.specs.Order.{hostOrder, controllerOrder, inOrder, KeepsController, KeepsHost, clearsHost}
-use Rattle.handshake.specs.Runs.{End, Move, after, running, Asker, asking, ComesBack, Fair, BackWithin}
-use Rattle.handshake.specs.Runs.{misled, beyondHelp}
+use Rattle.handshake.specs.Order.{hostOrder, controllerOrder, among, KeepsController, KeepsHost, clearsHost}
+use Rattle.handshake.specs.Back.{Asker, asking, ComesBack, Fair, BackWithin, misled, beyondHelp}
+use Rattle.handshake.specs.Runs.{End, Move, after, running}
 use Rattle.handshake.specs.Steps.{hostStep, hostWaits, controllerStep, controllerWaits}
 use Rattle.handshake.proofs.Fair.{back-from-asking, back-from-anywhere}
 use Rattle.handshake.proofs.Own.{host-writes-its-own, controller-writes-its-own, controller-clears-the-host}
@@ -45,18 +45,18 @@ the-controller-writes-its-own-flags phase seen =
 
 -- "Any state out of order for the phase, also all zeros or all ones where they are out of order, is answered by
 -- waiting.": no flag is changed, and the phase stays
-pub the-host-waits-out-of-order : (phase : HostPhase) (seen : Flags) → inOrder (hostOrder phase) seen ≡ false
+pub the-host-waits-out-of-order : (phase : HostPhase) (seen : Flags) → among (hostOrder phase) seen ≡ false
     → hostStep phase seen ≡ hostWaits phase
 the-host-waits-out-of-order = host-waits
 
 pub the-controller-waits-out-of-order : (phase : ControllerPhase) (seen : Flags)
-    → inOrder (controllerOrder phase) seen ≡ false
+    → among (controllerOrder phase) seen ≡ false
     → controllerStep phase seen ≡ controllerWaits phase
 the-controller-waits-out-of-order = controller-waits
 
 -- "from normal runtime, with one end asking and both ends stepping in turn, normal runtime comes back within a stated
--- number of steps, counted by a definition": after exactly that number, for each asker, for both at once, and for either
--- end first; all ones and all zeros are passed on the way
+-- number of steps, counted by a definition": after exactly that number, for each asker, for both at once, and for
+-- either end first; all ones and all zeros are passed on the way
 pub normal-runtime-comes-back : (asker : Asker) (first : End) → ComesBack asker first
 normal-runtime-comes-back = back-in-turn
 
@@ -79,19 +79,19 @@ pub one-wrong-sight-is-survived : (history : List Move) (end : End) (seen : Flag
     → BackWithin (8 * k) order (misled end seen (after history running))
 one-wrong-sight-is-survived = back-after-a-wrong-sight
 
--- what a step says, stored in a window: the flags that are read there next are the changed ones, and every pointer is as
--- it was, right for its ring or not, so that a reset can cure a broken one. Document 01 lets the two structures overlap;
--- a handshake needs them apart.
+-- what a step says, stored in a window: the flags that are read there next are the changed ones, and every pointer is
+-- as it was, right for its ring or not, so that a reset can cure a broken one. Document 01 lets the two structures
+-- overlap; a handshake needs them apart.
 pub a-step-is-stored-beside-any-pointer : (window : List ℕ) (c : Configuration) → Below 256 window
     → allowed (length window) c ≡ true → (c .ros + 8 ≤ c .rws) ⊎ (c .rws + 8 ≤ c .ros) → (change : Change)
     → interfaceIn (storedFlags window c change) c
     ≡ reflagged (interfaceIn window c) (changedFlags change (interfaceIn window c .flags))
 a-step-is-stored-beside-any-pointer = flags-changed
 
--- "003 says a graceful reset loses no packet in the MMBI layer" (#104): from normal runtime with two empty rings, whatever
--- packets are offered, whoever asks, and whoever has a turn, in any order: when the controller reinitializes, every
--- packet that was stored in either ring has been read, in order. A turn is a drain and a step at one go; the host doesn't
--- drain once it has set H_RST.
+-- "003 says a graceful reset loses no packet in the MMBI layer" (#104): from normal runtime with two empty rings,
+-- whatever packets are offered, whoever asks, and whoever has a turn, in any order: when the controller reinitializes,
+-- every packet that was stored in either ring has been read, in order. A turn is a drain and a step at one go; the host
+-- doesn't drain once it has set H_RST.
 pub a-graceful-reset-loses-no-packet : (out h2b : List ℕ) (h2bAt : ℕ) (b2h : List ℕ) (b2hAt : ℕ) → 68 ≤ length out
     → ringRight 64 h2b h2bAt ≡ true → ringRight 64 b2h b2hAt ≡ true
     → (events : List Event) → reinitializes (afterAll 64 out events (startWith h2b h2bAt b2h b2hAt) .ends) ≡ true

@@ -79,7 +79,8 @@ module _ (most : ℕ) (mayHold : Bool) (flags : Flags) (p : List ℕ) (q : Queue
       let g = good most (length (q .ring)) (q .configured) (mayWrite (stateOf flags)) (q .read) (q .write) (length p)
       next e in
       let sized = within-holds 5 (4 + most) (length p) (g .least) (g .largest) in
-      let on = holds-written most (q .configured) (q .ring) (q .read) (q .write) (k .held) p (k .holds) sized (g .room) in
+      let on = holds-written most (q .configured) (q .ring) (q .read) (q .write) (k .held) p (k .holds) sized
+      (g .room) in
       record {
         held = k .held ++ (p ∷ []);
         holds = rw (g .after) on;
@@ -93,7 +94,8 @@ module _ (most : ℕ) (mayHold : Bool) (flags : Flags) (p : List ℕ) (q : Queue
   unfolding put wrote
   put-kept =
       put-answered
-      (enteredOf most (length (q .ring)) (q .configured) (mayWrite (stateOf flags)) (q .read) (q .write) (length p)) refl
+      (enteredOf most (length (q .ring)) (q .configured) (mayWrite (stateOf flags)) (q .read) (q .write) (length p))
+      refl
 
 -- a ring that may be read, or that holds nothing, holds nothing once it is drained
 module _ (most : ℕ) (mayHold : Bool) (out : List ℕ) (flags : Flags) (q : Queue) (room : 4 + most ≤ length out)
@@ -266,7 +268,8 @@ module _ (most : ℕ) (out : List ℕ) (room : 4 + most ≤ length out) where
       let f = l .ends .flags in
       let q = drain most out f (l .h2b) in
       let now = stepped theController (l .ends) .flags in
-      let read : Kept most false q = drain-empties most (h2bHolds f) out f (l .h2b) room (s .h2b) (of-flags f .h2b-read) in
+      let read : Kept most false q =
+      drain-empties most (h2bHolds f) out f (l .h2b) room (s .h2b) (of-flags f .h2b-read) in
       let gone : reinitializes (l .ends) ≡ true → Kept most false (l .b2h) = λ (r : reinitializes (l .ends) ≡ true).
       nothing-held most (b2hHolds f) (l .b2h) (none-at-zeros (l .ends) r .1) (s .b2h) in
       record {

@@ -17,7 +17,8 @@ use Rattle.ring.specs.Writing.{Entered, entered, refused, enteredOf}
 use Rattle.handshake.specs.Phases.{controllerNumber}
 use Rattle.handshake.specs.Runs.{Ends, End, theHost, theController, stepped, asked, running}
 
--- one ring: its length, bytes and pointers, every packet that was stored in it, and every packet that was read out of it
+-- one ring: its length, bytes and pointers, every packet that was stored in it, and every packet that was read out of
+-- it
 pub record Queue : Type 0 where
   pub configured : ℕ
   pub ring : List ℕ
@@ -104,8 +105,8 @@ controllerTurn most out l =
       b2h = pick (reinitializes (l .ends)) (cleared (l .b2h)) (l .b2h);
     }
 
--- all that may happen, in any order and any number: an end offers a packet to the ring that it writes, asks for a reset,
--- or has its turn
+-- all that may happen, in any order and any number: an end offers a packet to the ring that it writes, asks for a
+-- reset, or has its turn
 pub data Event : Type 0 where
   puts : End → List ℕ → Event
   asks : End → Event

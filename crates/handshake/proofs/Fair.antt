@@ -9,10 +9,12 @@ use native.Mathlib.Nat.{suc-mul}
 use lib.ListN.{length, take, drop, length-drop}
 use lib.Seq.{take-add, take-take, drop-drop, length-take-le}
 use Rattle.octets.proofs.Choice.{either-way}
-use Rattle.handshake.specs.Runs.{Ends, End, theHost, theController, sameEnd, stepped, Move, steps, after, running}
-use Rattle.handshake.specs.Runs.{isBack, stepsIn, Fair, BackWithin, inTurn, Asker, hostAsks, controllerAsks, bothAsk, asking}
+use Rattle.handshake.specs.Back.{sameEnd, isBack, stepsIn, Fair, BackWithin, inTurn, Asker, hostAsks}
+use Rattle.handshake.specs.Back.{controllerAsks, bothAsk, asking}
+use Rattle.handshake.specs.Runs.{Ends, End, theHost, theController, stepped, Move, steps, after, running}
 use Rattle.handshake.specs.Steps.{hostStep, controllerStep}
-use Rattle.handshake.proofs.Left.{sees, waits, leftWithin, left, finishes, few-left, finishes-few, one-fewer, someone-acts, finishes-moved}
+use Rattle.handshake.proofs.Left.{sees, waits, leftWithin, left, finishes, few-left, finishes-few, one-fewer}
+use Rattle.handshake.proofs.Left.{someone-acts, finishes-moved}
 use Rattle.handshake.proofs.Left.{finishes-after, back-is-running}
 
 -- steps after steps

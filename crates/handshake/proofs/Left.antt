@@ -1,5 +1,5 @@
--- How many acts are left until normal runtime is back: fewer after each step that acts, at most eight in every state that
--- can be reached, and none left only where it is back.
+-- How many acts are left until normal runtime is back: fewer after each step that acts, at most eight in every state
+-- that can be reached, and none left only where it is back.
 -- Assumes nothing.
 use mathlib.Core.Path.{_≡_, refl, ap, sym}
 use mathlib.Core.Bool.{Bool, true, false, _&&_, _||_, false≢true}
@@ -19,10 +19,11 @@ use Rattle.handshake.specs.declared.host.HostStep.{HostStep}
 use Rattle.handshake.specs.declared.controller.ControllerPhase.{ControllerPhase}
 use Rattle.handshake.specs.declared.controller.ControllerPhase.the-variants as controller
 use Rattle.handshake.specs.declared.controller.ControllerStep.{ControllerStep}
-use Rattle.handshake.specs.Order.{hostOrder, controllerOrder, inOrder}
+use Rattle.handshake.specs.Order.{hostOrder, controllerOrder, among}
 use Rattle.handshake.specs.Phases.{hostNumber, controllerNumber}
-use Rattle.handshake.specs.Runs.{Ends, End, theHost, theController, hostLeaves, controllerLeaves, stepped, Move, steps, asks, moved, after}
-use Rattle.handshake.specs.Runs.{asked, running, isBack}
+use Rattle.handshake.specs.Back.{isBack}
+use Rattle.handshake.specs.Runs.{Ends, End, theHost, theController, hostLeaves, controllerLeaves, stepped, Move}
+use Rattle.handshake.specs.Runs.{steps, asks, moved, after, asked, running}
 use Rattle.handshake.specs.Steps.{hostStep, controllerStep}
 use Rattle.handshake.proofs.Phases.{hosts, controllers, everyOf, every-host, every-controller}
 use Rattle.handshake.proofs.Phases.{host-injective, controller-injective}
@@ -30,8 +31,8 @@ use Rattle.handshake.proofs.Waiting.{host-waits, controller-waits}
 
 -- whether the flags are in order for this end, so that it acts at its next step
 abbrev pub sees : End → Ends → Bool
-sees theHost e = inOrder (hostOrder (e .host)) (e .flags)
-sees theController e = inOrder (controllerOrder (e .controller)) (e .flags)
+sees theHost e = among (hostOrder (e .host)) (e .flags)
+sees theController e = among (controllerOrder (e .controller)) (e .flags)
 
 -- a step that waits leaves all as it was
 pub waits : (end : End) (e : Ends) → sees end e ≡ false → stepped end e ≡ e

@@ -1,5 +1,5 @@
--- What every phase does in every flag state, and what the numbers of phases give, written out: a definition and its code
--- could be wrong alike.
+-- What every phase does in every flag state, and what the numbers of phases give, written out: a definition and its
+-- code could be wrong alike.
 -- Assumes nothing.
 use mathlib.Core.Path.{_≡_, refl}
 use mathlib.Core.Bool.{_&&_}

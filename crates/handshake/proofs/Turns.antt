@@ -1,12 +1,13 @@
--- From normal runtime, with one end or both asking and the ends stepping in turn, normal runtime comes back after exactly
--- the stated number of steps.
+-- From normal runtime, with one end or both asking and the ends stepping in turn, normal runtime comes back after
+-- exactly the stated number of steps.
 -- Assumes nothing.
 use mathlib.Core.Path.{_≡_, refl}
 use mathlib.Core.List.{List, [], _∷_, map}
 use Prim.Native.Nat.{ℕ}
 use Rattle.mmbi.proofs.States.{digits}
-use Rattle.handshake.specs.Runs.{End, theHost, theController, Asker, hostAsks, controllerAsks, bothAsk, asking}
-use Rattle.handshake.specs.Runs.{inTurn, stepsBack, statedSteps, trace, ComesBack}
+use Rattle.handshake.specs.Back.{Asker, hostAsks, controllerAsks, bothAsk, asking, inTurn, stepsBack, statedSteps}
+use Rattle.handshake.specs.Back.{trace, ComesBack}
+use Rattle.handshake.specs.Runs.{End, theHost, theController}
 use Rattle.handshake.specs.Steps.{hostStep, controllerStep}
 
 pub back-in-turn : (asker : Asker) (first : End) → ComesBack asker first

@@ -10,21 +10,21 @@ use Rattle.handshake.specs.declared.host.HostPhase.{HostPhase}
 use Rattle.handshake.specs.declared.host.HostPhase.the-variants as host
 use Rattle.handshake.specs.declared.controller.ControllerPhase.{ControllerPhase}
 use Rattle.handshake.specs.declared.controller.ControllerPhase.the-variants as controller
-use Rattle.handshake.specs.Order.{hostOrder, controllerOrder, inOrder}
+use Rattle.handshake.specs.Order.{hostOrder, controllerOrder, among}
 use Rattle.handshake.specs.Steps.{hostSees, hostDoes, hostWaits, hostStep}
 use Rattle.handshake.specs.Steps.{controllerSees, controllerDoes, controllerWaits, controllerStep}
 
 -- what a phase looks for are the rows of Table 5 in which it acts: a test of all sixteen flag states
-same-rows : (rows : List Flags) (sees : Flags → Bool) → everyFlags (λ f. Bool·beq (inOrder rows f) (sees f)) ≡ true
-    → (f : Flags) → inOrder rows f ≡ sees f
-same-rows rows sees e f = beq-true _ _ (every-flags (λ f. Bool·beq (inOrder rows f) (sees f)) e f)
+same-rows : (rows : List Flags) (sees : Flags → Bool) → everyFlags (λ f. Bool·beq (among rows f) (sees f)) ≡ true
+    → (f : Flags) → among rows f ≡ sees f
+same-rows rows sees e f = beq-true _ _ (every-flags (λ f. Bool·beq (among rows f) (sees f)) e f)
 
-host-rows : (phase : HostPhase) (f : Flags) → inOrder (hostOrder phase) f ≡ hostSees phase f
+host-rows : (phase : HostPhase) (f : Flags) → among (hostOrder phase) f ≡ hostSees phase f
 host-rows host.Running = same-rows (hostOrder host.Running) (hostSees host.Running) refl
 host-rows host.Asking = same-rows (hostOrder host.Asking) (hostSees host.Asking) refl
 host-rows host.Waiting = same-rows (hostOrder host.Waiting) (hostSees host.Waiting) refl
 
-controller-rows : (phase : ControllerPhase) (f : Flags) → inOrder (controllerOrder phase) f ≡ controllerSees phase f
+controller-rows : (phase : ControllerPhase) (f : Flags) → among (controllerOrder phase) f ≡ controllerSees phase f
 controller-rows controller.Running =
     same-rows (controllerOrder controller.Running) (controllerSees controller.Running) refl
 controller-rows controller.Asking =
@@ -36,22 +36,22 @@ controller-rows controller.Cleared =
 controller-rows controller.Initializing =
     same-rows (controllerOrder controller.Initializing) (controllerSees controller.Initializing) refl
 
-pub host-waits : (phase : HostPhase) (f : Flags) → inOrder (hostOrder phase) f ≡ false
+pub host-waits : (phase : HostPhase) (f : Flags) → among (hostOrder phase) f ≡ false
     → hostStep phase f ≡ hostWaits phase
 unfolding hostStep
 host-waits phase f e = rw (sym (host-rows phase f) ∙ e)
 
-pub host-acts : (phase : HostPhase) (f : Flags) → inOrder (hostOrder phase) f ≡ true
+pub host-acts : (phase : HostPhase) (f : Flags) → among (hostOrder phase) f ≡ true
     → hostStep phase f ≡ hostDoes phase
 unfolding hostStep
 host-acts phase f e = rw (sym (host-rows phase f) ∙ e)
 
-pub controller-waits : (phase : ControllerPhase) (f : Flags) → inOrder (controllerOrder phase) f ≡ false
+pub controller-waits : (phase : ControllerPhase) (f : Flags) → among (controllerOrder phase) f ≡ false
     → controllerStep phase f ≡ controllerWaits phase
 unfolding controllerStep
 controller-waits phase f e = rw (sym (controller-rows phase f) ∙ e)
 
-pub controller-acts : (phase : ControllerPhase) (f : Flags) → inOrder (controllerOrder phase) f ≡ true
+pub controller-acts : (phase : ControllerPhase) (f : Flags) → among (controllerOrder phase) f ≡ true
     → controllerStep phase f ≡ controllerDoes phase
 unfolding controllerStep
 controller-acts phase f e = rw (sym (controller-rows phase f) ∙ e)

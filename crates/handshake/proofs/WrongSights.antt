@@ -11,8 +11,8 @@ use Rattle.mmbi.specs.Interface.{askedByHost, askedByController, acknowledged, 
 use Rattle.mmbi.proofs.States.{everyFlags, every-flags}
 use Rattle.handshake.specs.declared.controller.ControllerPhase.the-variants as controller
 use Rattle.handshake.specs.declared.host.HostPhase.the-variants as host
-use Rattle.handshake.specs.Runs.{Ends, End, theHost, theController, Move, after, running, Fair, BackWithin, misled}
-use Rattle.handshake.specs.Runs.{beyondHelp}
+use Rattle.handshake.specs.Back.{Fair, BackWithin, misled, beyondHelp}
+use Rattle.handshake.specs.Runs.{Ends, End, theHost, theController, Move, after, running}
 use Rattle.handshake.specs.Steps.{hostStep, controllerStep}
 use Rattle.handshake.proofs.Fair.{back-within, running-finishes}
 use Rattle.handshake.proofs.Left.{everyEnds, every-ends, leftWithin, left, finishes, few-left, finishes-after}

@@ -2,3 +2,4 @@ pub mod Phases
 pub mod Steps
 pub mod Order
 pub mod Runs
+pub mod Back

@@ -1,5 +1,6 @@
--- Which flag states are in order for a phase, by Table 5 of 003, and whose flags a step may write. Document 02, #105: "Any
--- state out of order for the phase, also all zeros or all ones where they are out of order, is answered by waiting."
+-- Which flag states are in order for a phase, by Table 5 of 003, and whose flags a step may write. Document 02, #105:
+-- "Any state out of order for the phase, also all zeros or all ones where they are out of order, is answered by
+-- waiting."
 -- Assumes nothing.
 use mathlib.Core.Path.{_≡_}
 use mathlib.Core.Bool.{Bool, true, false, _&&_, _||_}
@@ -40,9 +41,9 @@ controllerOrder controller.Cleared = flagsOf false true false false ∷ []
 controllerOrder controller.Initializing = flagsOf false false false false ∷ []
 
 -- these flags are one of the rows
-abbrev pub inOrder : List Flags → Flags → Bool
-inOrder [] f = false
-inOrder (row ∷ rows) f = sameFlags row f || inOrder rows f
+abbrev pub among : List Flags → Flags → Bool
+among [] f = false
+among (row ∷ rows) f = sameFlags row f || among rows f
 
 -- "Neither end writes the other's flags": a change leaves one end's flags, whatever they are
 abbrev pub KeepsController : Change → Type 0

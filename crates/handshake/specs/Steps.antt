@@ -58,9 +58,9 @@ controllerSees controller.Down f = sameFlags f transitioning
 controllerSees controller.Cleared f = sameFlags f hostCleared
 controllerSees controller.Initializing f = sameFlags f allClear
 
--- and what it does then: "3) The (B)MC clears the B_UP flag (B_RST still set). .. 4) The (B)MC clears the H_UP and H_RST
--- flags .. 5) The (B)MC clears the B_RST flag. 6) The (B)MC reinitializes all the data structures. 7) The (B)MC sets
--- B_UP = 1."
+-- and what it does then: "3) The (B)MC clears the B_UP flag (B_RST still set). .. 4) The (B)MC clears the H_UP and
+-- H_RST flags .. 5) The (B)MC clears the B_RST flag. 6) The (B)MC reinitializes all the data structures. 7) The (B)MC
+-- sets B_UP = 1."
 abbrev pub controllerDoes : ControllerPhase → ControllerStep
 controllerDoes controller.Running = controllerSays (Controller SetReset) controller.Asked
 controllerDoes controller.Asking = controllerSays (Controller SetReset) controller.Asked

@@ -1,5 +1,5 @@
-// The reset handshake (003, 8.1): both ends, each a step that sees the four flags and its own phase and says which flags
-// to set or clear next.
+// The reset handshake (003, 8.1): both ends, each a step that sees the four flags and its own phase and says which
+// flags to set or clear next.
 mod controller;
 mod host;
 

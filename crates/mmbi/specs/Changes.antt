@@ -33,7 +33,7 @@ changedFlags (Host act) f =
 changedFlags (Controller act) f =
     flagsOf (upAfter act (f .«controller_up»)) (resetAfter act (f .«controller_reset»)) (f .«host_up») (f .«host_reset»)
 
--- the word that holds an end's flags, "[1] .. (H_UP)" and "[0] .. (H_RST)" or "[1] .. (B_UP)" and "[0] .. (B_RST)", after
--- a change of them; the pointer in it stays
+-- the word that holds an end's flags, "[1] .. (H_UP)" and "[0] .. (H_RST)" or "[1] .. (B_UP)" and "[0] .. (B_RST)",
+-- after a change of them; the pointer in it stays
 unfoldable pub changedWord : Act → Word → Word
 changedWord act w = record { pointer = w .pointer; bit1 = upAfter act (w .bit1); bit0 = resetAfter act (w .bit0) }

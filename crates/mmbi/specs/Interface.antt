@@ -52,8 +52,8 @@ completed = flagsOf true false false false
 abbrev pub acknowledged : Flags
 acknowledged = flagsOf true true true true
 
--- on the way from one to the other: "Transitioning to Initialization" (0111), of the "Temporary Transition States" 0100,
--- "Initialization in Progress" (0000)
+-- on the way from one to the other: "Transitioning to Initialization" (0111), of the "Temporary Transition States"
+-- 0100, "Initialization in Progress" (0000)
 abbrev pub transitioning : Flags
 transitioning = flagsOf false true true true
 

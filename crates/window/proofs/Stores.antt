@@ -148,7 +148,8 @@ pub zero-stored : (window : ℕ) (c : Configuration) (p : Pointer) → allowed w
 zero-stored window c p ok =
     let right = ring-right window c (pointsInto p) (points-into-ring p) (allowed-facts window c ok) in
     let long = length-facts (areaPlace c (pointsInto p) .length) right .low in
-    store-good window c p 0 ok (pointer-holds (ring window c p 0) 0 (record { fours = refl; below = omega (arith, long) }))
+    store-good window c p 0 ok
+    (pointer-holds (ring window c p 0) 0 (record { fours = refl; below = omega (arith, long) }))
 
 -- a word stored
 module _ (s : List ℕ) (c : Configuration) (p : Pointer) (w : Word) where
