@@ -1,13 +1,16 @@
 -- From normal runtime, with one end or both asking and the ends stepping in turn, normal runtime comes back after
--- exactly the stated number of steps.
+-- exactly the stated number of steps; and it comes up from power-up.
 -- Assumes nothing.
 use mathlib.Core.Path.{_≡_, refl}
 use mathlib.Core.List.{List, [], _∷_, map}
 use Prim.Native.Nat.{ℕ}
+use Rattle.mmbi.specs.Interface.{allClear}
 use Rattle.mmbi.proofs.States.{digits}
+use Rattle.handshake.specs.declared.controller.ControllerPhase.the-variants as controller
+use Rattle.handshake.specs.declared.host.HostPhase.the-variants as host
 use Rattle.handshake.specs.Back.{Asker, hostAsks, controllerAsks, bothAsk, asking, inTurn, stepsBack, statedSteps}
 use Rattle.handshake.specs.Back.{trace, ComesBack}
-use Rattle.handshake.specs.Runs.{End, theHost, theController}
+use Rattle.handshake.specs.Runs.{Ends, End, theHost, theController}
 use Rattle.handshake.specs.Steps.{hostStep, controllerStep}
 
 pub back-in-turn : (asker : Asker) (first : End) → ComesBack asker first
@@ -32,3 +35,13 @@ pub traces :
     × (seen bothAsk theController ≡ 14 ∷ 15 ∷ 7 ∷ 7 ∷ 4 ∷ 4 ∷ 0 ∷ 0 ∷ 8 ∷ 10 ∷ [])
 unfolding trace hostStep controllerStep
 traces = (refl, refl, refl, refl, refl, refl)
+
+-- after power-up the host waits and the controller initializes, with all flags clear; and so it is where a controller
+-- started anew and the host's caller put it into phase waiting
+abbrev powerUp : Ends
+powerUp = record { flags = allClear; host = host.Waiting; controller = controller.Initializing }
+
+pub from-power-up :
+    (stepsBack (inTurn theHost 3) powerUp ≡ 3) × (stepsBack (inTurn theController 2) powerUp ≡ 2)
+unfolding stepsBack hostStep controllerStep
+from-power-up = (refl, refl)

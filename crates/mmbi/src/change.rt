@@ -72,6 +72,6 @@ fn reset_after(act: Act, reset: bool) -> bool
         Act::ClearUp => reset,
         Act::SetReset => true,
         Act::ClearReset => false,
-        Act::ClearBoth => false,
+        Act::ClearBoth => false, // "clears the H_UP and H_RST flags"
     }
 }
