@@ -2,34 +2,35 @@
 -- Assumes nothing.
 use mathlib.Core.Path.{_≡_, refl, _∙_}
 use mathlib.Core.Bool.{true, false}
-use mathlib.Core.List.{List, [], _∷_, _++_}
+use mathlib.Core.List.{List, [], _∷_, _++_, map}
 use mathlib.Core.Logic.{inl}
-use Prim.Native.Nat.{ℕ}
+use Prim.Native.Nat.{ℕ, _≤_}
 use lib.Dec.{lit≤}
-use lib.ListN.{length, replicate}
+use lib.ListN.{length, take, replicate}
 use Rattle.octets.specs.Bytes.{fronted}
-use Rattle.octets.specs.Words.{wordBytes}
+use Rattle.octets.specs.Words.{wordAt, wordBytes}
 use Rattle.mmbi.specs.declared.change.Act.the-variants.{SetReset, ClearBoth}
 use Rattle.mmbi.specs.declared.change.Change.the-variants.{Host}
-use Rattle.mmbi.specs.Interface.{askedByHost, acknowledged, transitioning, allClear, stateOf, mayRead}
+use Rattle.mmbi.specs.Interface.{flagsOf, askedByHost, acknowledged, transitioning, allClear, stateOf, mayRead}
 use Rattle.pec.proofs.Tests.{all-bytes}
 use Rattle.descriptor.specs.Configuration.{inside, clear, allowed}
 use Rattle.descriptor.proofs.Literal.{windowImage, imageConfiguration}
 use Rattle.window.specs.Words.{interfaceIn, storedFlags, reflagged}
 use Rattle.window.proofs.Literal.{image-words}
 use Rattle.smbus.proofs.Literal.{literalPacket}
-use Rattle.ring.specs.Layout.{ringBytes}
+use Rattle.ring.specs.Layout.{packetOf, headerFor, ringBytes}
 use Rattle.ring.specs.Numbers.{roomOf, filledOf, nextOf}
 use Rattle.ring.specs.Round.{roundFrom, stored}
-use Rattle.ring.specs.Runs.{wrote}
+use Rattle.ring.specs.Reading.{judged, foundOf}
+use Rattle.ring.specs.Runs.{wrote, drained}
 use Rattle.ring.specs.Writing.{enteredOf}
 use Rattle.handshake.specs.declared.controller.ControllerPhase.the-variants as controller
 use Rattle.handshake.specs.declared.host.HostPhase.the-variants as host
-use Rattle.handshake.specs.Order.{KeepsHost}
-use Rattle.handshake.specs.Back.{inTurn, hostAsks, asking, BackWithin, misled, beyondHelp}
+use Rattle.handshake.specs.Order.{among, KeepsHost}
+use Rattle.handshake.specs.Back.{inTurn, hostAsks, asking, stepsBack, trace, BackWithin, misled, beyondHelp}
 use Rattle.handshake.specs.Runs.{theHost, theController, Move, steps, asks, after, running}
 use Rattle.handshake.specs.Steps.{hostStep, hostWaits, controllerStep, controllerWaits}
-use Rattle.handshake.proofs.Fair.{in-turn-fair}
+use Rattle.handshake.proofs.Fair.{fair-order, uneven, fair-orders}
 use Rattle.demands.specs.Turns as turns
 use Rattle.demands.specs.Turns.{Event, put, drain, reinitializes, Link, afterAll, startWith}
 use Rattle.demands.proofs.Resets as resets
@@ -54,11 +55,20 @@ the-controller-waits-out-of-order = (
   resets.the-controller-waits-out-of-order controller.Asked allClear refl,
 )
 
--- stepping in turn is fair, with k = 2
-pub it-comes-back-in-any-fair-order : BackWithin 14 (inTurn theController 14) (asking hostAsks)
+-- twelve steps, where the host asks and the controller steps first, with 1111 and 0000 on the way
+pub normal-runtime-comes-back :
+    (stepsBack (inTurn theController 12) (asking hostAsks) ≡ 12)
+    × (among (trace (inTurn theController 12) (asking hostAsks)) (flagsOf true true true true) ≡ true)
+    × (among (trace (inTurn theController 12) (asking hostAsks)) (flagsOf false false false false) ≡ true)
+normal-runtime-comes-back =
+    let back = resets.normal-runtime-comes-back hostAsks theController in (back .counted, back .acked, back .cleared)
+
+-- the host twice, then the controller: at most 21 steps
+pub it-comes-back-in-any-fair-order : (n : ℕ) × (n ≤ 21) × (after (map steps (take n uneven)) (asking hostAsks) ≡ running)
 it-comes-back-in-any-fair-order =
-    resets.it-comes-back-in-any-fair-order hostAsks 2 (inTurn theController 14) (in-turn-fair theController 14)
-    (lit≤ tt)
+    let back =
+    resets.it-comes-back-in-any-fair-order hostAsks 3 uneven (fair-order 3 uneven (fair-orders .1)) (lit≤ tt) in
+    (back .count, back .soon, back .back)
 
 -- the host sets H_UP and asks again before the controller has looked
 abbrev again : List Move
@@ -67,7 +77,7 @@ again =
     ∷ steps theController ∷ steps theController ∷ steps theHost ∷ asks theHost ∷ steps theHost ∷ []
 
 pub nothing-is-stuck : BackWithin 16 (inTurn theHost 16) (after again running)
-nothing-is-stuck = resets.nothing-is-stuck again 2 (inTurn theHost 16) (in-turn-fair theHost 16) (lit≤ tt)
+nothing-is-stuck = resets.nothing-is-stuck again 2 (inTurn theHost 16) (fair-order 2 (inTurn theHost 16) (fair-orders .0)) (lit≤ tt)
 
 -- a controller that is to ask in normal runtime is shown all ones
 pub one-wrong-sight-is-survived : BackWithin 16 (inTurn theHost 16)
@@ -75,7 +85,7 @@ pub one-wrong-sight-is-survived : BackWithin 16 (inTurn theHost 16)
 unfolding after
 one-wrong-sight-is-survived =
     resets.one-wrong-sight-is-survived (asks theController ∷ []) theController acknowledged to-ask 2 (inTurn theHost 16)
-    (in-turn-fair theHost 16) (lit≤ tt)
+    (fair-order 2 (inTurn theHost 16) (fair-orders .0)) (lit≤ tt)
   where
     to-ask : beyondHelp theController acknowledged (after (asks theController ∷ []) running) ≡ false
     to-ask = refl
@@ -131,6 +141,22 @@ a-graceful-reset-loses-no-packet =
     resets.a-graceful-reset-loses-no-packet room (replicate 128 0) 124 (replicate 128 0) 0 (lit≤ tt) refl refl turned
     turned-zeros in
     (all .h2b ∙ turned-sent .0, all .b2h ∙ turned-sent .1)
+
+-- on from there, past the clear: the rings start anew at 0, and what was got before isn't forgotten
+abbrev onwards : List Event
+onwards =
+    turned
+    ++ (turns.turn theController
+    ∷ turns.turn theHost
+    ∷ turns.puts theController literalPacket
+    ∷ turns.turn theHost
+    ∷ [])
+
+pub got-onwards : (afterAll 64 room onwards begin .b2h .got ≡ (literalPacket ++ literalPacket) ∷ literalPacket ∷ [])
+    × (afterAll 64 room onwards begin .b2h .read ≡ 12)
+unfolding afterAll hostStep controllerStep put drain wrote enteredOf filledOf roomOf nextOf stateOf stored roundFrom
+    fronted ringBytes wordBytes drained foundOf judged packetOf headerFor wordAt
+got-onwards = (refl, refl)
 
 -- and with both packets still in the rings
 abbrev offered : List Event

@@ -6,7 +6,6 @@ use mathlib.Core.Bool.{Bool, true, false, not, _&&_, _||_, false≢true}
 use mathlib.Core.List.{List, [], _∷_, _++_, append-assoc, append-nil}
 use Prim.Native.Nat.{ℕ, _+_, _≤_}
 use native.Mathlib.Omega.{arith}
-use lib.Dec.{eqb}
 use lib.ListN.{length, replicate, length-replicate}
 use Rattle.octets.proofs.Choice.{both, pick-elim, either-way, implies, implied, implied-not, within-holds}
 use Rattle.mmbi.specs.declared.interface.Flags.{Flags}
@@ -22,11 +21,13 @@ use Rattle.ring.proofs.Draining.{few-held, all-drained, none-drained}
 use Rattle.ring.proofs.Held.{Holds, holds-none, holds-written}
 use Rattle.ring.proofs.Numbers.{set-up-facts}
 use Rattle.ring.proofs.Writings.{good}
-use Rattle.handshake.specs.Phases.{controllerNumber}
+use Rattle.handshake.specs.declared.controller.ControllerPhase.the-variants as controller
+use Rattle.handshake.specs.Phases.{controllerIs}
 use Rattle.handshake.specs.Runs.{Ends, theHost, theController, stepped}
 use Rattle.handshake.specs.Steps.{hostStep, controllerStep}
 use Rattle.handshake.proofs.Left.{everyEnds, every-ends}
 use Rattle.demands.specs.Turns.{Queue, emptyAt, storedBy, put, drain, cleared, reinitializes, Link, Event, puts}
+use Rattle.demands.specs.Turns.{drainsUnder}
 use Rattle.demands.specs.Turns.{asks, turn, hostTurn, controllerTurn, happened, afterAll, startWith, ringRight}
 use Rattle.demands.specs.Turns.{AllGot, bothDrained}
 
@@ -181,14 +182,13 @@ h2bHolds f = sameFlags f normalRuntime || sameFlags f askedByHost
 abbrev b2hHolds : Flags → Bool
 b2hHolds f = sameFlags f normalRuntime || sameFlags f askedByController
 
--- by a test of every flag state: a ring is written only where it may hold packets, and where it may it can be read, by
--- the host before H_RST is set
+-- by a test of every flag state: a ring is written only where it may hold packets, and the host's may not once H_RST is
+-- set
 abbrev flagsTest : Flags → Bool
 flagsTest f =
     implies (mayWrite (stateOf f)) (h2bHolds f)
     && (implies (mayWrite (stateOf f)) (b2hHolds f)
-    && (implies (h2bHolds f) (mayRead (stateOf f))
-    && (implies (b2hHolds f) (mayRead (stateOf f)) && implies (b2hHolds f) (not (f .«host_reset»)))))
+    && implies (b2hHolds f) (not (f .«host_reset»)))
 
 flags-tested : everyFlags flagsTest ≡ true
 unfolding stateOf
@@ -197,47 +197,46 @@ flags-tested = refl
 record OfFlags (f : Flags) : Type 0 where
   h2b-written : implies (mayWrite (stateOf f)) (h2bHolds f) ≡ true
   b2h-written : implies (mayWrite (stateOf f)) (b2hHolds f) ≡ true
-  h2b-read : implies (h2bHolds f) (mayRead (stateOf f)) ≡ true
-  b2h-read : implies (b2hHolds f) (mayRead (stateOf f)) ≡ true
   b2h-before : implies (b2hHolds f) (not (f .«host_reset»)) ≡ true
 
 of-flags : (f : Flags) → OfFlags f
 of-flags f =
     let first = both (implies (mayWrite (stateOf f)) (h2bHolds f)) _ (every-flags flagsTest flags-tested f) in
-    let second = both (implies (mayWrite (stateOf f)) (b2hHolds f)) _ (first .1) in
-    let third = both (implies (h2bHolds f) (mayRead (stateOf f))) _ (second .1) in
-    let last = both (implies (b2hHolds f) (mayRead (stateOf f))) _ (third .1) in
-    record {
-      h2b-written = first .0;
-      b2h-written = second .0;
-      h2b-read = third .0;
-      b2h-read = last .0;
-      b2h-before = last .1;
-    }
+    let last = both (implies (mayWrite (stateOf f)) (b2hHolds f)) _ (first .1) in
+    record { h2b-written = first .0; b2h-written = last .0; b2h-before = last .1 }
 
--- by a test of every state: an end's step leaves the other's ring as full as it may be
-abbrev stepsTest : Ends → Bool
-stepsTest e =
-    implies (h2bHolds (e .flags)) (h2bHolds (stepped theHost e .flags))
-    && implies (b2hHolds (e .flags)) (b2hHolds (stepped theController e .flags))
+-- by a test of every state: where a ring may hold packets, its reader can drain it, and the other end's step leaves it
+-- as full as it may be
+abbrev endsTest : Ends → Bool
+endsTest e =
+    implies (h2bHolds (e .flags)) (mayRead (stateOf (drainsUnder e)))
+    && (implies (b2hHolds (e .flags)) (mayRead (stateOf (drainsUnder e)))
+    && (implies (h2bHolds (e .flags)) (h2bHolds (stepped theHost e .flags))
+    && implies (b2hHolds (e .flags)) (b2hHolds (stepped theController e .flags))))
 
-steps-tested : everyEnds stepsTest ≡ true
-unfolding hostStep controllerStep
-steps-tested = refl
+ends-tested : everyEnds endsTest ≡ true
+unfolding stateOf hostStep controllerStep
+ends-tested = refl
 
-steps-leave : (e : Ends)
-    → (implies (h2bHolds (e .flags)) (h2bHolds (stepped theHost e .flags)) ≡ true)
-    × (implies (b2hHolds (e .flags)) (b2hHolds (stepped theController e .flags)) ≡ true)
-steps-leave e =
-    both (implies (h2bHolds (e .flags)) (h2bHolds (stepped theHost e .flags)))
-    (implies (b2hHolds (e .flags)) (b2hHolds (stepped theController e .flags)))
-    (every-ends stepsTest steps-tested e)
+record OfEnds (e : Ends) : Type 0 where
+  h2b-read : implies (h2bHolds (e .flags)) (mayRead (stateOf (drainsUnder e))) ≡ true
+  b2h-read : implies (b2hHolds (e .flags)) (mayRead (stateOf (drainsUnder e))) ≡ true
+  host-leaves : implies (h2bHolds (e .flags)) (h2bHolds (stepped theHost e .flags)) ≡ true
+  controller-leaves : implies (b2hHolds (e .flags)) (b2hHolds (stepped theController e .flags)) ≡ true
+
+of-ends : (e : Ends) → OfEnds e
+of-ends e =
+    let first = both (implies (h2bHolds (e .flags)) (mayRead (stateOf (drainsUnder e)))) _
+    (every-ends endsTest ends-tested e) in
+    let second = both (implies (b2hHolds (e .flags)) (mayRead (stateOf (drainsUnder e)))) _ (first .1) in
+    let last = both (implies (h2bHolds (e .flags)) (h2bHolds (stepped theHost e .flags))) _ (second .1) in
+    record { h2b-read = first .0; b2h-read = second .0; host-leaves = last .0; controller-leaves = last .1 }
 
 -- nothing may be held where the controller reinitializes
 none-at-zeros : (e : Ends) → reinitializes e ≡ true → (h2bHolds (e .flags) ≡ false) × (b2hHolds (e .flags) ≡ false)
 none-at-zeros e r =
     let zeros = same-flags-true (e .flags) allClear
-    (both (eqb (controllerNumber (e .controller)) 5) (sameFlags (e .flags) allClear) r .1) in
+    (both (controllerIs (e .controller) controller.Initializing) (sameFlags (e .flags) allClear) r .1) in
     (ap h2bHolds zeros, ap b2hHolds zeros)
 
 -- both rings are in order, whatever happens
@@ -249,27 +248,28 @@ module _ (most : ℕ) (out : List ℕ) (room : 4 + most ≤ length out) where
   host-turn : (l : Link) → Sound most l → Sound most (hostTurn most out l)
   host-turn l s =
       let f = l .ends .flags in
-      let of = of-flags f in
-      let read : Kept most false (drain most out f (l .b2h)) =
-      drain-empties most (b2hHolds f) out f (l .b2h) room (s .b2h) (of .b2h-read) in
+      let of = of-ends (l .ends) in
+      let q = drain most out (drainsUnder (l .ends)) (l .b2h) in
+      let read : Kept most false q =
+      drain-empties most (b2hHolds f) out (drainsUnder (l .ends)) (l .b2h) room (s .b2h) (of .b2h-read) in
       let left : f .«host_reset» ≡ true → Kept most false (l .b2h) = λ (set : f .«host_reset» ≡ true).
       nothing-held most (b2hHolds f) (l .b2h)
-      (implied-not (b2hHolds f) (not (f .«host_reset»)) (of .b2h-before) (ap not set)) (s .b2h) in
+      (implied-not (b2hHolds f) (not (f .«host_reset»)) (of-flags f .b2h-before) (ap not set)) (s .b2h) in
       record {
-        h2b = as-before most (h2bHolds f) _ (l .h2b) (steps-leave (l .ends) .0) (s .h2b);
+        h2b = as-before most (h2bHolds f) _ (l .h2b) (of .host-leaves) (s .h2b);
         b2h =
             any-way most _ _
-            (pick-elim (Kept most false) (f .«host_reset») (l .b2h) (drain most out f (l .b2h)) left
-            (λ (e : _). read));
+            (pick-elim (Kept most false) (f .«host_reset») (l .b2h) q left (λ (e : _). read));
       }
 
   controller-turn : (l : Link) → Sound most l → Sound most (controllerTurn most out l)
   controller-turn l s =
       let f = l .ends .flags in
-      let q = drain most out f (l .h2b) in
+      let of = of-ends (l .ends) in
+      let q = drain most out (drainsUnder (l .ends)) (l .h2b) in
       let now = stepped theController (l .ends) .flags in
       let read : Kept most false q =
-      drain-empties most (h2bHolds f) out f (l .h2b) room (s .h2b) (of-flags f .h2b-read) in
+      drain-empties most (h2bHolds f) out (drainsUnder (l .ends)) (l .h2b) room (s .h2b) (of .h2b-read) in
       let gone : reinitializes (l .ends) ≡ true → Kept most false (l .b2h) = λ (r : reinitializes (l .ends) ≡ true).
       nothing-held most (b2hHolds f) (l .b2h) (none-at-zeros (l .ends) r .1) (s .b2h) in
       record {
@@ -279,7 +279,7 @@ module _ (most : ℕ) (out : List ℕ) (room : 4 + most ≤ length out) where
         b2h =
             pick-elim (Kept most (b2hHolds now)) (reinitializes (l .ends)) (cleared (l .b2h)) (l .b2h)
             (λ (r : _). any-way most _ _ (cleared-kept most (l .b2h) (gone r)))
-            (λ (r : _). as-before most (b2hHolds f) _ (l .b2h) (steps-leave (l .ends) .1) (s .b2h));
+            (λ (r : _). as-before most (b2hHolds f) _ (l .b2h) (of .controller-leaves) (s .b2h));
       }
 
   happened-sound : (event : Event) (l : Link) → Sound most l → Sound most (happened most out event l)

@@ -5,7 +5,6 @@ use mathlib.Core.Path.{_≡_}
 use mathlib.Core.Bool.{Bool, _&&_}
 use mathlib.Core.List.{List, [], _∷_, _++_}
 use Prim.Native.Nat.{ℕ}
-use lib.Dec.{eqb}
 use lib.ListN.{length, replicate}
 use Rattle.octets.specs.Choice.{pick}
 use Rattle.mmbi.specs.declared.interface.Flags.{Flags}
@@ -14,7 +13,8 @@ use Rattle.mmbi.specs.Pointers.{pointerRight}
 use Rattle.ring.specs.Numbers.{setUpRight}
 use Rattle.ring.specs.Runs.{wrote, drained}
 use Rattle.ring.specs.Writing.{Entered, entered, refused, enteredOf}
-use Rattle.handshake.specs.Phases.{controllerNumber}
+use Rattle.handshake.specs.declared.controller.ControllerPhase.the-variants as controller
+use Rattle.handshake.specs.Phases.{controllerIs}
 use Rattle.handshake.specs.Runs.{Ends, End, theHost, theController, stepped, asked, running}
 
 -- one ring: its length, bytes and pointers, every packet that was stored in it, and every packet that was read out of
@@ -79,7 +79,7 @@ cleared q =
 
 -- it does so in phase initializing, at 0000, before it sets B_UP
 abbrev pub reinitializes : Ends → Bool
-reinitializes e = eqb (controllerNumber (e .controller)) 5 && sameFlags (e .flags) allClear
+reinitializes e = controllerIs (e .controller) controller.Initializing && sameFlags (e .flags) allClear
 
 -- flags and phases, the ring from the host to the controller, and the ring from the controller to the host
 pub record Link : Type 0 where
@@ -87,18 +87,22 @@ pub record Link : Type 0 where
   pub h2b : Queue
   pub b2h : Queue
 
+-- an end looks at the flags once: it drains under those that it saw before its step
+abbrev pub drainsUnder : Ends → Flags
+drainsUnder e = e .flags
+
 -- "an end drains its ring before each step of the handshake, the host not after it has set H_RST"
 abbrev pub hostTurn : (most : ℕ) (out : List ℕ) → Link → Link
 hostTurn most out l =
     record {
       ends = stepped theHost (l .ends);
       h2b = l .h2b;
-      b2h = pick (l .ends .flags .«host_reset») (l .b2h) (drain most out (l .ends .flags) (l .b2h));
+      b2h = pick (l .ends .flags .«host_reset») (l .b2h) (drain most out (drainsUnder (l .ends)) (l .b2h));
     }
 
 abbrev pub controllerTurn : (most : ℕ) (out : List ℕ) → Link → Link
 controllerTurn most out l =
-    let h2b = drain most out (l .ends .flags) (l .h2b) in
+    let h2b = drain most out (drainsUnder (l .ends)) (l .h2b) in
     record {
       ends = stepped theController (l .ends);
       h2b = pick (reinitializes (l .ends)) (cleared h2b) h2b;

@@ -1,14 +1,16 @@
 -- Under any fair order of steps normal runtime comes back, from every state that steps and asks in any order can reach.
 -- Assumes nothing.
 use mathlib.Core.Path.{_≡_, refl, ap, sym, _∙_}
-use mathlib.Core.Bool.{Bool, true, false, _||_, false≢true}
+use mathlib.Core.Bool.{Bool, true, false, _&&_, _||_, false≢true}
 use mathlib.Core.List.{List, [], _∷_, _++_, map}
 use Prim.Native.Nat.{ℕ, zero, suc, _+_, _-_, _*_, _≤_}
 use native.Mathlib.Omega.{arith}
 use native.Mathlib.Nat.{suc-mul}
 use lib.ListN.{length, take, drop, length-drop}
 use lib.Seq.{take-add, take-take, drop-drop, length-take-le}
-use Rattle.octets.proofs.Choice.{either-way}
+use borrow.Author.Tests.{le-leb}
+use lib.Dec.{leb}
+use Rattle.octets.proofs.Choice.{both, either-way, implies, implied}
 use Rattle.handshake.specs.Back.{sameEnd, isBack, stepsIn, Fair, BackWithin, inTurn, Asker, hostAsks}
 use Rattle.handshake.specs.Back.{controllerAsks, bothAsk, asking}
 use Rattle.handshake.specs.Runs.{Ends, End, theHost, theController, stepped, Move, steps, after, running}
@@ -157,28 +159,49 @@ back-from-anywhere history k order fair long =
     let can = finishes-after history running running-finishes in
     back-within k 8 order (after history running) can (few-left (after history running) can) fair long
 
--- stepping in turn is a fair order, so the premise can be met
-in-turn-length : (first : End) (n : ℕ) → length (inTurn first n) ≡ n
-in-turn-length first zero = refl
-in-turn-length theHost (suc n) = ap suc (in-turn-length theController n)
-in-turn-length theController (suc n) = ap suc (in-turn-length theHost n)
+-- an order that is written out is fair by a test of each k neighbours, so the premise can be met
+abbrev bothStep : ℕ → List End → Bool
+bothStep k order = implies (leb k (length order)) (stepsIn theHost (take k order) && stepsIn theController (take k order))
 
-two-in-turn : (first end : End) (n : ℕ) → stepsIn end (take 2 (inTurn first (suc (suc n)))) ≡ true
-unfolding stepsIn
-two-in-turn theHost theHost n = refl
-two-in-turn theHost theController n = refl
-two-in-turn theController theHost n = refl
-two-in-turn theController theController n = refl
+abbrev pub eachFair : ℕ → List End → Bool
+eachFair k [] = bothStep k []
+eachFair k (end ∷ order) = bothStep k (end ∷ order) && eachFair k order
 
-two-anywhere : (first end : End) (before n : ℕ) → before + 2 ≤ n
-    → stepsIn end (take 2 (drop before (inTurn first n))) ≡ true
-two-anywhere first end zero zero h = absurd (omega arith)
-two-anywhere first end zero (suc zero) h = absurd (omega arith)
-two-anywhere first end zero (suc (suc n)) h = two-in-turn first end n
-two-anywhere first end (suc before) zero h = absurd (omega arith)
-two-anywhere theHost end (suc before) (suc n) h = two-anywhere theController end before n (omega arith)
-two-anywhere theController end (suc before) (suc n) h = two-anywhere theHost end before n (omega arith)
+both-step : (k : ℕ) (order : List End) → bothStep k order ≡ true → k ≤ length order → (end : End)
+    → stepsIn end (take k order) ≡ true
+both-step k order t h = of
+  where
+    each : (stepsIn theHost (take k order) ≡ true) × (stepsIn theController (take k order) ≡ true)
+    each =
+        both (stepsIn theHost (take k order)) (stepsIn theController (take k order))
+        (implied (leb k (length order)) _ t (le-leb k (length order) h))
 
-pub in-turn-fair : (first : End) (n : ℕ) → Fair 2 (inTurn first n)
+    of : (end : End) → stepsIn end (take k order) ≡ true
+    of theHost = each .0
+    of theController = each .1
+
+fair-at : (k : ℕ) (order : List End) → eachFair k order ≡ true → (end : End) (before : ℕ) → before + k ≤ length order
+    → stepsIn end (take k (drop before order)) ≡ true
+fair-at k [] t end zero h = both-step k [] t (omega arith) end
+fair-at k [] t end (suc before) h = absurd (omega arith)
+fair-at k (first ∷ order) t end zero h =
+    both-step k (first ∷ order) (both (bothStep k (first ∷ order)) (eachFair k order) t .0) (omega arith) end
+fair-at k (first ∷ order) t end (suc before) h =
+    fair-at k order (both (bothStep k (first ∷ order)) (eachFair k order) t .1) end before (omega arith)
+
+pub fair-order : (k : ℕ) (order : List End) → eachFair k order ≡ true → Fair k order
 unfolding Fair
-in-turn-fair first n end before h = two-anywhere first end before n (omega (arith, in-turn-length first n))
+fair-order = fair-at
+
+-- in turn, which is fair with k = 2; and the host twice, then the controller, which is fair with k = 3 and not with 2
+abbrev pub uneven : List End
+uneven =
+    theHost ∷ theHost ∷ theController ∷ theHost ∷ theHost ∷ theController ∷ theHost ∷ theHost ∷ theController ∷ theHost
+    ∷ theHost ∷ theController ∷ theHost ∷ theHost ∷ theController ∷ theHost ∷ theHost ∷ theController ∷ theHost
+    ∷ theHost ∷ theController ∷ []
+
+pub fair-orders :
+    (eachFair 2 (inTurn theHost 16) ≡ true) × (eachFair 3 uneven ≡ true) × (eachFair 2 uneven ≡ false)
+    × (eachFair 0 [] ≡ false)
+unfolding stepsIn
+fair-orders = (refl, refl, refl, refl)

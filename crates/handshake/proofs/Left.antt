@@ -20,7 +20,7 @@ use Rattle.handshake.specs.declared.controller.ControllerPhase.{Controll
 use Rattle.handshake.specs.declared.controller.ControllerPhase.the-variants as controller
 use Rattle.handshake.specs.declared.controller.ControllerStep.{ControllerStep}
 use Rattle.handshake.specs.Order.{hostOrder, controllerOrder, among}
-use Rattle.handshake.specs.Phases.{hostNumber, controllerNumber}
+use Rattle.handshake.specs.Phases.{hostIs, controllerIs}
 use Rattle.handshake.specs.Back.{isBack}
 use Rattle.handshake.specs.Runs.{Ends, End, theHost, theController, hostLeaves, controllerLeaves, stepped, Move}
 use Rattle.handshake.specs.Runs.{steps, asks, moved, after, asked, running}
@@ -150,10 +150,10 @@ finishes-after (move ∷ moves) e can = finishes-after moves (moved move e) (fin
 -- back is normal runtime with both ends running, and nothing else
 pub back-is-running : (e : Ends) → isBack e ≡ true → e ≡ running
 back-is-running e b =
-    let last = both (sameFlags (e .flags) normalRuntime && eqb (hostNumber (e .host)) 0)
-    (eqb (controllerNumber (e .controller)) 0) b in
-    let first = both (sameFlags (e .flags) normalRuntime) (eqb (hostNumber (e .host)) 0) (last .0) in
+    let last = both (sameFlags (e .flags) normalRuntime && hostIs (e .host) host.Running)
+    (controllerIs (e .controller) controller.Running) b in
+    let first = both (sameFlags (e .flags) normalRuntime) (hostIs (e .host) host.Running) (last .0) in
     let flags = same-flags-true (e .flags) normalRuntime (first .0) in
-    let hosts = host-injective (e .host) host.Running (eqb-true _ 0 (first .1)) in
-    let controllers = controller-injective (e .controller) controller.Running (eqb-true _ 0 (last .1)) in
+    let hosts = host-injective (e .host) host.Running (eqb-true _ _ (first .1)) in
+    let controllers = controller-injective (e .controller) controller.Running (eqb-true _ _ (last .1)) in
     λ i. ends (flags i) (hosts i) (controllers i)

@@ -5,5 +5,6 @@ pub mod Turns
 pub mod Left
 pub mod Fair
 pub mod WrongSights
+pub mod Restarts
 pub mod Literal
 pub mod Determined

@@ -3,9 +3,10 @@
 use mathlib.Core.Path.{_≡_, refl, sym, _∙_}
 use mathlib.Core.Bool.{true, false, false≢true}
 use Rattle.octets.proofs.Choice.{pick-elim}
-use Rattle.mmbi.specs.declared.change.Act.the-variants.{ClearBoth}
-use Rattle.mmbi.specs.declared.change.Change.the-variants.{Host}
+use Rattle.mmbi.specs.declared.change.Act.the-variants.{SetUp, SetReset, ClearBoth}
+use Rattle.mmbi.specs.declared.change.Change.the-variants.{Host, Controller}
 use Rattle.mmbi.specs.declared.interface.Flags.{Flags}
+use Rattle.mmbi.specs.Interface.{allClear}
 use Rattle.handshake.specs.declared.host.HostPhase.{HostPhase}
 use Rattle.handshake.specs.declared.host.HostPhase.the-variants as host
 use Rattle.handshake.specs.declared.host.HostStep.{HostStep}
@@ -53,3 +54,16 @@ controller-clears-the-host controller.Asked seen e = absurd (false≢true e)
 controller-clears-the-host controller.Down seen e = rw e
 controller-clears-the-host controller.Cleared seen e = absurd (false≢true e)
 controller-clears-the-host controller.Initializing seen e = absurd (false≢true e)
+
+-- "keeps" is of both flags of an end: a change of either is none that keeps them
+pub not-kept :
+    (KeepsController (Controller SetUp) → ⊥)
+    × (KeepsController (Controller SetReset) → ⊥)
+    × (KeepsHost (Host SetUp) → ⊥)
+    × (KeepsHost (Host SetReset) → ⊥)
+not-kept = (
+  (λ (k : KeepsController (Controller SetUp)). false≢true (sym (k allClear .0))),
+  (λ (k : KeepsController (Controller SetReset)). false≢true (sym (k allClear .1))),
+  (λ (k : KeepsHost (Host SetUp)). false≢true (sym (k allClear .0))),
+  (λ (k : KeepsHost (Host SetReset)). false≢true (sym (k allClear .1))),
+)

@@ -10,7 +10,7 @@ use Rattle.handshake.specs.declared.controller.ControllerPhase.the-varia
 use Rattle.handshake.specs.declared.host.HostPhase.the-variants as host
 use Rattle.handshake.specs.Back.{Asker, hostAsks, controllerAsks, bothAsk, asking, inTurn, stepsBack, statedSteps}
 use Rattle.handshake.specs.Back.{trace, ComesBack}
-use Rattle.handshake.specs.Runs.{Ends, End, theHost, theController}
+use Rattle.handshake.specs.Runs.{Ends, End, theHost, theController, running}
 use Rattle.handshake.specs.Steps.{hostStep, controllerStep}
 
 pub back-in-turn : (asker : Asker) (first : End) → ComesBack asker first
@@ -35,6 +35,11 @@ pub traces :
     × (seen bothAsk theController ≡ 14 ∷ 15 ∷ 7 ∷ 7 ∷ 4 ∷ 4 ∷ 0 ∷ 0 ∷ 8 ∷ 10 ∷ [])
 unfolding trace hostStep controllerStep
 traces = (refl, refl, refl, refl, refl, refl)
+
+-- where the steps don't lead back, one more than there are is counted; and nothing is to be counted where it is back
+pub counted-out : (stepsBack (inTurn theHost 10) (asking hostAsks) ≡ 11) × (stepsBack (inTurn theHost 3) running ≡ 0)
+unfolding stepsBack hostStep controllerStep
+counted-out = (refl, refl)
 
 -- after power-up the host waits and the controller initializes, with all flags clear; and so it is where a controller
 -- started anew and the host's caller put it into phase waiting

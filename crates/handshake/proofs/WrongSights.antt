@@ -1,16 +1,14 @@
 -- One wrong sight of the flags, by either end, leaves a way back, but for the few that are named.
 -- Assumes nothing.
 use mathlib.Core.Path.{_≡_, refl, ap}
-use mathlib.Core.Bool.{Bool, true, false, not, _&&_}
-use mathlib.Core.List.{List, [], _∷_, map}
+use mathlib.Core.Bool.{Bool, true, false, not, _&&_, _||_}
+use mathlib.Core.List.{List}
 use Prim.Native.Nat.{ℕ, _*_, _≤_}
 use lib.ListN.{length}
 use Rattle.octets.proofs.Choice.{both, implies, implied}
 use Rattle.mmbi.specs.declared.interface.Flags.{Flags}
-use Rattle.mmbi.specs.Interface.{askedByHost, askedByController, acknowledged, completed}
+use Rattle.mmbi.specs.Interface.{sameFlags}
 use Rattle.mmbi.proofs.States.{everyFlags, every-flags}
-use Rattle.handshake.specs.declared.controller.ControllerPhase.the-variants as controller
-use Rattle.handshake.specs.declared.host.HostPhase.the-variants as host
 use Rattle.handshake.specs.Back.{Fair, BackWithin, misled, beyondHelp}
 use Rattle.handshake.specs.Runs.{Ends, End, theHost, theController, Move, after, running}
 use Rattle.handshake.specs.Steps.{hostStep, controllerStep}
@@ -51,17 +49,21 @@ back-after-a-wrong-sight history end seen n k order fair long =
     let can = still-finishes end seen (after history running) (finishes-after history running running-finishes) n in
     back-within k 8 order now can (few-left now can) fair long
 
--- the named ones are beyond help: the host that waits at its own ask is shown 1000; the controller that asked is shown
--- 1111; the controller at 1000 is shown 1011
-abbrev lost : List Ends
-lost =
-    misled theHost completed (record { flags = askedByHost; host = host.Waiting; controller = controller.Running })
-    ∷ misled theController acknowledged
-    (record { flags = askedByController; host = host.Running; controller = controller.Asked })
-    ∷ misled theController askedByHost
-    (record { flags = completed; host = host.Waiting; controller = controller.Running })
-    ∷ []
+-- and no more is named than is lost: each sight that is named is right, or leaves no way back
+abbrev lost : End → Flags → Ends → Bool
+lost end seen e =
+    implies (beyondHelp end seen e) (sameFlags seen (e .flags) || not (finishes (misled end seen e)))
 
-pub named-are-lost : map finishes lost ≡ false ∷ false ∷ false ∷ []
+abbrev namedTest : Ends → Bool
+namedTest e = implies (finishes e) (everyFlags (λ seen. lost theHost seen e && lost theController seen e))
+
+named-tested : everyEnds namedTest ≡ true
 unfolding finishes left leftWithin hostStep controllerStep
-named-are-lost = refl
+named-tested = refl
+
+pub no-more-named : (seen : Flags) (e : Ends) → finishes e ≡ true
+    → (lost theHost seen e ≡ true) × (lost theController seen e ≡ true)
+no-more-named seen e can =
+    both (lost theHost seen e) (lost theController seen e)
+    (every-flags (λ f. lost theHost f e && lost theController f e)
+    (implied (finishes e) _ (every-ends namedTest named-tested e) can) seen)

@@ -5,13 +5,14 @@ use mathlib.Core.Path.{_≡_}
 use mathlib.Core.Bool.{Bool, true, false, _&&_, _||_}
 use mathlib.Core.List.{List, [], _∷_, map}
 use Prim.Native.Nat.{ℕ, zero, suc, _+_, _≤_}
-use lib.Dec.{eqb}
 use lib.ListN.{length, take, drop}
 use Rattle.octets.specs.Choice.{pick}
 use Rattle.mmbi.specs.declared.interface.Flags.{Flags}
 use Rattle.mmbi.specs.Interface.{sameFlags, normalRuntime, askedByHost, acknowledged, completed, allClear}
+use Rattle.handshake.specs.declared.controller.ControllerPhase.the-variants as controller
+use Rattle.handshake.specs.declared.host.HostPhase.the-variants as host
 use Rattle.handshake.specs.Order.{among}
-use Rattle.handshake.specs.Phases.{hostNumber, controllerNumber}
+use Rattle.handshake.specs.Phases.{hostIs, controllerIs}
 use Rattle.handshake.specs.Runs.{Ends, End, theHost, theController, hostLeaves, controllerLeaves, stepped, asked}
 use Rattle.handshake.specs.Runs.{steps, after, running}
 use Rattle.handshake.specs.Steps.{hostStep, controllerStep}
@@ -19,7 +20,8 @@ use Rattle.handshake.specs.Steps.{hostStep, controllerStep}
 -- flags 1010 and both phases running
 abbrev pub isBack : Ends → Bool
 isBack e =
-    sameFlags (e .flags) normalRuntime && eqb (hostNumber (e .host)) 0 && eqb (controllerNumber (e .controller)) 0
+    sameFlags (e .flags) normalRuntime && hostIs (e .host) host.Running
+    && controllerIs (e .controller) controller.Running
 
 -- "from normal runtime, with one end asking", or both
 pub data Asker : Type 0 where
@@ -91,10 +93,12 @@ abbrev pub misled : End → Flags → Ends → Ends
 misled theHost seen e = hostLeaves (hostStep (e .host) seen) e
 misled theController seen e = controllerLeaves (controllerStep (e .controller) seen) e
 
--- what no waiting can save: the host in phase waiting is shown 1000; the controller in phase asked 1111, and at 1000,
--- while the host isn't up yet, a reset asked for or normal runtime
+-- the wrong sights that no waiting can save: the host in phase waiting is shown 1000; the controller in phase asked is
+-- shown 1111; the controller at 1000, while the host isn't up yet, is shown an ask of the host's, or, where it is to ask
+-- itself, normal runtime
 abbrev pub beyondHelp : End → Flags → Ends → Bool
-beyondHelp theHost seen e = eqb (hostNumber (e .host)) 2 && sameFlags seen completed
+beyondHelp theHost seen e = hostIs (e .host) host.Waiting && sameFlags seen completed
 beyondHelp theController seen e =
-    (eqb (controllerNumber (e .controller)) 2 && sameFlags seen acknowledged)
-    || (sameFlags (e .flags) completed && (sameFlags seen askedByHost || sameFlags seen normalRuntime))
+    (controllerIs (e .controller) controller.Asked && sameFlags seen acknowledged)
+    || (sameFlags (e .flags) completed
+    && (sameFlags seen askedByHost || (controllerIs (e .controller) controller.Asking && sameFlags seen normalRuntime)))

@@ -5,7 +5,6 @@
 use mathlib.Core.Path.{_≡_}
 use mathlib.Core.Bool.{Bool, true, false, _&&_, _||_}
 use mathlib.Core.List.{List, [], _∷_}
-use lib.Dec.{eqb}
 use Rattle.mmbi.specs.declared.change.Change.{Change}
 use Rattle.mmbi.specs.declared.interface.Flags.{Flags}
 use Rattle.mmbi.specs.Changes.{changedFlags}
@@ -14,7 +13,7 @@ use Rattle.handshake.specs.declared.host.HostPhase.{HostPhase}
 use Rattle.handshake.specs.declared.host.HostPhase.the-variants as host
 use Rattle.handshake.specs.declared.controller.ControllerPhase.{ControllerPhase}
 use Rattle.handshake.specs.declared.controller.ControllerPhase.the-variants as controller
-use Rattle.handshake.specs.Phases.{controllerNumber}
+use Rattle.handshake.specs.Phases.{controllerIs}
 
 -- the rows of Table 5, "B_UP B_RST H_UP H_RST", in which a phase of the host acts
 abbrev pub hostOrder : HostPhase → List Flags
@@ -57,4 +56,4 @@ KeepsHost change = (f : Flags)
 
 -- "except where 8.1.2 has the controller clear the host's": in phase down, at 0111
 abbrev pub clearsHost : ControllerPhase → Flags → Bool
-clearsHost phase f = eqb (controllerNumber phase) 3 && sameFlags f (flagsOf false true true true)
+clearsHost phase f = controllerIs phase controller.Down && sameFlags f (flagsOf false true true true)

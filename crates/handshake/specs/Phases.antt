@@ -1,7 +1,8 @@
 -- The phases of both ends: the numbers under which they are stored, and what an ask does to them (document 02, #105).
 -- Assumes nothing.
 use Prim.Native.Nat.{ℕ}
-use lib.Dec.{ltb}
+use mathlib.Core.Bool.{Bool}
+use lib.Dec.{ltb, eqb}
 use Rattle.octets.specs.Choice.{pick}
 use Rattle.mctp.specs.Refusals.{numberOf}
 use Rattle.handshake.specs.declared.host.HostPhase.{HostPhase}
@@ -19,6 +20,10 @@ hostNumber host.Running = 0
 hostNumber host.Asking = 1
 hostNumber host.Waiting = 2
 
+-- whether it is this phase
+abbrev pub hostIs : HostPhase → HostPhase → Bool
+hostIs p q = eqb (hostNumber p) (hostNumber q)
+
 abbrev pub hostPhases : ℕ
 hostPhases = 3
 
@@ -30,6 +35,9 @@ controllerNumber controller.Asked = 2
 controllerNumber controller.Down = 3
 controllerNumber controller.Cleared = 4
 controllerNumber controller.Initializing = 5
+
+abbrev pub controllerIs : ControllerPhase → ControllerPhase → Bool
+controllerIs p q = eqb (controllerNumber p) (controllerNumber q)
 
 abbrev pub controllerPhases : ℕ
 controllerPhases = 6

@@ -11,7 +11,7 @@ use runs::Run;
 use text::Text;
 
 // The words of the page. A byte of 0x80 or more stands for what the calls answer.
-const PAGE: [u8; 2597] = *b"# The reset handshake
+const PAGE: [u8; 2796] = *b"# The reset handshake
 
 This page is what the program `resets` prints (`rt check resets && ./run resets`). Every row is asked of the proved
 calls, and the gate compares the page with what the program prints.
@@ -71,10 +71,11 @@ That took \x96 steps.
 - Before its step it drains the ring that it reads; the host not once it has set H_RST (003, Table 5, row 1011).
 - It stores the change with `window::store_flags`. Where that answers 1, nothing is stored, and it keeps its old phase.
 - The controller reinitializes the data structures in phase initializing, before it stores B_UP (003, 8.1.2.2, steps 6
-  and 7).
+  and 7). The host reads the descriptor anew at 1000 (Table 5), before it stores H_UP.
 - After power-up, with all flags clear, the host starts in phase waiting and the controller in phase initializing.
-- A host whose controller restarted without a handshake is put into phase waiting by its caller. Such a restart loses
-  what was in the rings.
+- An end that restarts alone, with the interface as it was, takes its phase from the flags: the README has the table.
+- A host whose controller started anew with all flags clear is put into phase waiting by its caller. Such a restart
+  loses what was in the rings.
 
 For the rest see [RULES.md](RULES.md#reset-handshake), [DECISIONS.md](DECISIONS.md) and [LOOSER.md](LOOSER.md).
 ";

@@ -14,7 +14,7 @@ use Rattle.mmbi.proofs.States.{sixteen}
 use Rattle.ring.specs.Numbers.{filledOf, roomOf, nextOf}
 use Rattle.ring.specs.Layout.{packetOf, headerFor, ringBytes}
 use Rattle.ring.specs.Reading as reading
-use Rattle.ring.specs.Runs.{Kept, wrote, writeAll, queued, readAll}
+use Rattle.ring.specs.Runs.{Kept, wrote, writeAll, queued, readAll, drained}
 use Rattle.ring.specs.Round.{roundFrom, stored}
 use Rattle.ring.specs.Writing as writing
 
@@ -129,3 +129,15 @@ pub three-stay :
     ≡ threeKept ∷ threeKept ∷ []
 unfolding stateOf writeAll wrote writing.enteredOf
 three-stay = refl
+
+-- a packet of another kind (type 5, a header alone) before one of MCTP, in a ring of bytes EE: draining passes over it,
+-- and stops where nothing more is filled; in 1111 it takes nothing
+abbrev mixed : List ℕ
+mixed = 0 ∷ 0 ∷ 0 ∷ 5 ∷ 0 ∷ 0 ∷ 11 ∷ 4 ∷ 1 ∷ 9 ∷ 10 ∷ 200 ∷ 0 ∷ 0 ∷ 0 ∷ 0 ∷ replicate 112 238
+
+pub mixed-drained :
+    map (λ (flags : Flags). drained 64 128 mixed (replicate 68 170) flags 16 128 0)
+    (normalRuntime ∷ flagsOf true true true true ∷ [])
+    ≡ record { packets = packet ∷ []; read = 16 } ∷ record { packets = []; read = 0 } ∷ []
+unfolding stateOf drained reading.foundOf reading.judged filledOf nextOf roundFrom fronted packetOf wordAt
+mixed-drained = refl
