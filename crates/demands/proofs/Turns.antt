@@ -26,25 +26,25 @@ use Rattle.handshake.specs.Phases.{controllerIs}
 use Rattle.handshake.specs.Runs.{Ends, theHost, theController, stepped}
 use Rattle.handshake.specs.Steps.{hostStep, controllerStep}
 use Rattle.handshake.proofs.Left.{everyEnds, every-ends}
-use Rattle.demands.specs.Turns.{Queue, emptyAt, storedBy, put, drain, cleared, reinitializes, Link, Event, puts}
+use Rattle.demands.specs.Turns.{Queue, emptyAt, storedBy, put, drain, renewed, reinitializes, Link, Event, puts}
 use Rattle.demands.specs.Turns.{drainsUnder}
 use Rattle.demands.specs.Turns.{asks, turn, hostTurn, controllerTurn, happened, afterAll, startWith, ringRight}
 use Rattle.demands.specs.Turns.{AllGot, bothDrained}
 
 -- a ring in order: what was sent is what was got and what is held, and nothing is held where nothing may be
-record Kept (most : ℕ) (mayHold : Bool) (q : Queue) : Type 0 where
+record Accounted (most : ℕ) (mayHold : Bool) (q : Queue) : Type 0 where
   held : List (List ℕ)
   holds : Holds most (q .configured) (q .ring) (q .read) (q .write) held
   all : q .sent ≡ q .got ++ held
   none : mayHold ≡ false → held ≡ []
 
 -- one that holds nothing is in order either way
-any-way : (most : ℕ) (mayHold : Bool) (q : Queue) → Kept most false q → Kept most mayHold q
+any-way : (most : ℕ) (mayHold : Bool) (q : Queue) → Accounted most false q → Accounted most mayHold q
 any-way most mayHold q k = record { held = k .held; holds = k .holds; all = k .all; none = λ (e : _). k .none refl }
 
 -- and so is one that may hold as much as before
-as-before : (most : ℕ) (before now : Bool) (q : Queue) → implies before now ≡ true → Kept most before q
-    → Kept most now q
+as-before : (most : ℕ) (before now : Bool) (q : Queue) → implies before now ≡ true → Accounted most before q
+    → Accounted most now q
 as-before most before now q i k =
     record {
       held = k .held;
@@ -54,13 +54,14 @@ as-before most before now q i k =
     }
 
 -- and so, to say it of both, is one that holds nothing where nothing may be held
-nothing-held : (most : ℕ) (mayHold : Bool) (q : Queue) → mayHold ≡ false → Kept most mayHold q → Kept most false q
+nothing-held : (most : ℕ) (mayHold : Bool) (q : Queue) → mayHold ≡ false → Accounted most mayHold q
+    → Accounted most false q
 nothing-held most mayHold q n k =
     record { held = k .held; holds = k .holds; all = k .all; none = λ (e : _). k .none n }
 
 -- a packet is stored only where the ring may hold some
 module _ (most : ℕ) (mayHold : Bool) (flags : Flags) (p : List ℕ) (q : Queue)
-    (writes : implies (mayWrite (stateOf flags)) mayHold ≡ true) (k : Kept most mayHold q) where
+    (writes : implies (mayWrite (stateOf flags)) mayHold ≡ true) (k : Accounted most mayHold q) where
   abbrev answered : Entered → Queue
   answered answer =
       record {
@@ -75,7 +76,7 @@ module _ (most : ℕ) (mayHold : Bool) (flags : Flags) (p : List ℕ) (q : Queue
   put-answered : (answer : Entered)
       → enteredOf most (length (q .ring)) (q .configured) (mayWrite (stateOf flags)) (q .read) (q .write) (length p)
       ≡ answer
-      → Kept most mayHold (answered answer)
+      → Accounted most mayHold (answered answer)
   put-answered (entered next) e =
       let g = good most (length (q .ring)) (q .configured) (mayWrite (stateOf flags)) (q .read) (q .write) (length p)
       next e in
@@ -91,16 +92,16 @@ module _ (most : ℕ) (mayHold : Bool) (flags : Flags) (p : List ℕ) (q : Queue
   put-answered (refused number) e =
       record { held = k .held; holds = k .holds; all = append-nil (q .sent) ∙ k .all; none = k .none }
 
-  put-kept : Kept most mayHold (put most flags p q)
+  put-accounted : Accounted most mayHold (put most flags p q)
   unfolding put wrote
-  put-kept =
+  put-accounted =
       put-answered
       (enteredOf most (length (q .ring)) (q .configured) (mayWrite (stateOf flags)) (q .read) (q .write) (length p))
       refl
 
 -- a ring that may be read, or that holds nothing, holds nothing once it is drained
 module _ (most : ℕ) (mayHold : Bool) (out : List ℕ) (flags : Flags) (q : Queue) (room : 4 + most ≤ length out)
-    (k : Kept most mayHold q) where
+    (k : Accounted most mayHold q) where
   abbrev with-drained : Drained → Queue
   with-drained d =
       record {
@@ -131,7 +132,7 @@ module _ (most : ℕ) (mayHold : Bool) (out : List ℕ) (flags : Flags) (q : Que
       (none-drained most (q .configured) (q .ring) out flags (q .write) room shut (q .configured) (q .read) (k .held)
       (k .holds))
 
-  drain-empties : implies mayHold (mayRead (stateOf flags)) ≡ true → Kept most false (drain most out flags q)
+  drain-empties : implies mayHold (mayRead (stateOf flags)) ≡ true → Accounted most false (drain most out flags q)
   drain-empties i =
       either-way (mayRead (stateOf flags))
       (λ (may : _).
@@ -155,9 +156,9 @@ module _ (most : ℕ) (mayHold : Bool) (out : List ℕ) (flags : Flags) (q : Que
   drain-gets : mayRead (stateOf flags) ≡ true → drain most out flags q .got ≡ q .sent
   drain-gets may = ap (λ (d : Queue). d .got) (drain-read may) ∙ sym (k .all)
 
--- a ring that holds nothing loses nothing when it is cleared
-cleared-kept : (most : ℕ) (q : Queue) → Kept most false q → Kept most false (cleared q)
-cleared-kept most q k =
+-- a ring that holds nothing loses nothing when it is renewed
+renewed-accounted : (most : ℕ) (q : Queue) → Accounted most false q → Accounted most false (renewed q)
+renewed-accounted most q k =
     let set-up = k .holds .set-up in
     let low = set-up .size .low in
     record {
@@ -241,8 +242,8 @@ none-at-zeros e r =
 
 -- both rings are in order, whatever happens
 record Sound (most : ℕ) (l : Link) : Type 0 where
-  h2b : Kept most (h2bHolds (l .ends .flags)) (l .h2b)
-  b2h : Kept most (b2hHolds (l .ends .flags)) (l .b2h)
+  h2b : Accounted most (h2bHolds (l .ends .flags)) (l .h2b)
+  b2h : Accounted most (b2hHolds (l .ends .flags)) (l .b2h)
 
 module _ (most : ℕ) (out : List ℕ) (room : 4 + most ≤ length out) where
   host-turn : (l : Link) → Sound most l → Sound most (hostTurn most out l)
@@ -250,16 +251,16 @@ module _ (most : ℕ) (out : List ℕ) (room : 4 + most ≤ length out) where
       let f = l .ends .flags in
       let of = of-ends (l .ends) in
       let q = drain most out (drainsUnder (l .ends)) (l .b2h) in
-      let read : Kept most false q =
+      let read : Accounted most false q =
       drain-empties most (b2hHolds f) out (drainsUnder (l .ends)) (l .b2h) room (s .b2h) (of .b2h-read) in
-      let left : f .«host_reset» ≡ true → Kept most false (l .b2h) = λ (set : f .«host_reset» ≡ true).
+      let left : f .«host_reset» ≡ true → Accounted most false (l .b2h) = λ (set : f .«host_reset» ≡ true).
       nothing-held most (b2hHolds f) (l .b2h)
       (implied-not (b2hHolds f) (not (f .«host_reset»)) (of-flags f .b2h-before) (ap not set)) (s .b2h) in
       record {
         h2b = as-before most (h2bHolds f) _ (l .h2b) (of .host-leaves) (s .h2b);
         b2h =
             any-way most _ _
-            (pick-elim (Kept most false) (f .«host_reset») (l .b2h) q left (λ (e : _). read));
+            (pick-elim (Accounted most false) (f .«host_reset») (l .b2h) q left (λ (e : _). read));
       }
 
   controller-turn : (l : Link) → Sound most l → Sound most (controllerTurn most out l)
@@ -268,27 +269,28 @@ module _ (most : ℕ) (out : List ℕ) (room : 4 + most ≤ length out) where
       let of = of-ends (l .ends) in
       let q = drain most out (drainsUnder (l .ends)) (l .h2b) in
       let now = stepped theController (l .ends) .flags in
-      let read : Kept most false q =
+      let read : Accounted most false q =
       drain-empties most (h2bHolds f) out (drainsUnder (l .ends)) (l .h2b) room (s .h2b) (of .h2b-read) in
-      let gone : reinitializes (l .ends) ≡ true → Kept most false (l .b2h) = λ (r : reinitializes (l .ends) ≡ true).
+      let gone : reinitializes (l .ends) ≡ true → Accounted most false (l .b2h) =
+      λ (r : reinitializes (l .ends) ≡ true).
       nothing-held most (b2hHolds f) (l .b2h) (none-at-zeros (l .ends) r .1) (s .b2h) in
       record {
         h2b =
-            pick-elim (Kept most (h2bHolds now)) (reinitializes (l .ends)) (cleared q) q
-            (λ (r : _). any-way most _ _ (cleared-kept most q read)) (λ (r : _). any-way most _ _ read);
+            pick-elim (Accounted most (h2bHolds now)) (reinitializes (l .ends)) (renewed q) q
+            (λ (r : _). any-way most _ _ (renewed-accounted most q read)) (λ (r : _). any-way most _ _ read);
         b2h =
-            pick-elim (Kept most (b2hHolds now)) (reinitializes (l .ends)) (cleared (l .b2h)) (l .b2h)
-            (λ (r : _). any-way most _ _ (cleared-kept most (l .b2h) (gone r)))
+            pick-elim (Accounted most (b2hHolds now)) (reinitializes (l .ends)) (renewed (l .b2h)) (l .b2h)
+            (λ (r : _). any-way most _ _ (renewed-accounted most (l .b2h) (gone r)))
             (λ (r : _). as-before most (b2hHolds f) _ (l .b2h) (of .controller-leaves) (s .b2h));
       }
 
   happened-sound : (event : Event) (l : Link) → Sound most l → Sound most (happened most out event l)
   happened-sound (puts theHost p) l s =
       let f = l .ends .flags in
-      record { h2b = put-kept most (h2bHolds f) f p (l .h2b) (of-flags f .h2b-written) (s .h2b); b2h = s .b2h }
+      record { h2b = put-accounted most (h2bHolds f) f p (l .h2b) (of-flags f .h2b-written) (s .h2b); b2h = s .b2h }
   happened-sound (puts theController p) l s =
       let f = l .ends .flags in
-      record { h2b = s .h2b; b2h = put-kept most (b2hHolds f) f p (l .b2h) (of-flags f .b2h-written) (s .b2h) }
+      record { h2b = s .h2b; b2h = put-accounted most (b2hHolds f) f p (l .b2h) (of-flags f .b2h-written) (s .b2h) }
   happened-sound (asks theHost) l s = record { h2b = s .h2b; b2h = s .b2h }
   happened-sound (asks theController) l s = record { h2b = s .h2b; b2h = s .b2h }
   happened-sound (turn theHost) l s = host-turn l s
@@ -300,9 +302,9 @@ module _ (most : ℕ) (out : List ℕ) (room : 4 + most ≤ length out) where
   all-sound (event ∷ events) l s = all-sound events (happened most out event l) (happened-sound event l s)
 
 -- an empty ring is in order
-empty-kept : (most : ℕ) (ring : List ℕ) (pointer : ℕ) → ringRight most ring pointer ≡ true
-    → Kept most false (emptyAt ring pointer)
-empty-kept most ring pointer right =
+empty-accounted : (most : ℕ) (ring : List ℕ) (pointer : ℕ) → ringRight most ring pointer ≡ true
+    → Accounted most false (emptyAt ring pointer)
+empty-accounted most ring pointer right =
     let of = both (setUpRight most (length ring) (length ring)) (pointerRight (length ring) pointer) right in
     record {
       held = [];
@@ -313,7 +315,7 @@ empty-kept most ring pointer right =
       none = λ (e : _). refl;
     }
 
-all-got : (most : ℕ) (mayHold : Bool) (q : Queue) → mayHold ≡ false → Kept most mayHold q → q .got ≡ q .sent
+all-got : (most : ℕ) (mayHold : Bool) (q : Queue) → mayHold ≡ false → Accounted most mayHold q → q .got ≡ q .sent
 all-got most mayHold q n k =
     sym (k .all ∙ ap (λ (s : List (List ℕ)). q .got ++ s) (k .none n) ∙ append-nil (q .got))
 
@@ -327,8 +329,8 @@ module _ (most : ℕ) (out h2b : List ℕ) (h2bAt : ℕ) (b2h : List ℕ) (b2hAt
   sound-now =
       all-sound most out room events (startWith h2b h2bAt b2h b2hAt)
       (record {
-        h2b = any-way most _ _ (empty-kept most h2b h2bAt h2bRight);
-        b2h = any-way most _ _ (empty-kept most b2h b2hAt b2hRight);
+        h2b = any-way most _ _ (empty-accounted most h2b h2bAt h2bRight);
+        b2h = any-way most _ _ (empty-accounted most b2h b2hAt b2hRight);
       })
 
   -- when the controller reinitializes, every packet that was sent has been got

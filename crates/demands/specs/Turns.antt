@@ -66,8 +66,8 @@ drain most out flags q =
     }
 
 -- 8.1.2.2: "6) The (B)MC reinitializes all the data structures.": what was in a ring is gone
-abbrev pub cleared : Queue → Queue
-cleared q =
+abbrev pub renewed : Queue → Queue
+renewed q =
     record {
       configured = q .configured;
       ring = replicate (q .configured) 0;
@@ -105,8 +105,8 @@ controllerTurn most out l =
     let h2b = drain most out (drainsUnder (l .ends)) (l .h2b) in
     record {
       ends = stepped theController (l .ends);
-      h2b = pick (reinitializes (l .ends)) (cleared h2b) h2b;
-      b2h = pick (reinitializes (l .ends)) (cleared (l .b2h)) (l .b2h);
+      h2b = pick (reinitializes (l .ends)) (renewed h2b) h2b;
+      b2h = pick (reinitializes (l .ends)) (renewed (l .b2h)) (l .b2h);
     }
 
 -- all that may happen, in any order and any number: an end offers a packet to the ring that it writes, asks for a

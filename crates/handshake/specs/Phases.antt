@@ -24,10 +24,11 @@ hostNumber host.Waiting = 2
 abbrev pub hostIs : HostPhase → HostPhase → Bool
 hostIs p q = eqb (hostNumber p) (hostNumber q)
 
+-- and how many there are
 abbrev pub hostPhases : ℕ
 hostPhases = 3
 
--- and the controller's six
+-- the controller's six
 abbrev pub controllerNumber : ControllerPhase → ℕ
 controllerNumber controller.Running = 0
 controllerNumber controller.Asking = 1
