@@ -64,7 +64,8 @@ normal-runtime-comes-back =
     let back = resets.normal-runtime-comes-back hostAsks theController in (back .counted, back .acked, back .cleared)
 
 -- the host twice, then the controller: at most 21 steps
-pub it-comes-back-in-any-fair-order : (n : ℕ) × (n ≤ 21) × (after (map steps (take n uneven)) (asking hostAsks) ≡ running)
+pub it-comes-back-in-any-fair-order :
+    (n : ℕ) × (n ≤ 21) × (after (map steps (take n uneven)) (asking hostAsks) ≡ running)
 it-comes-back-in-any-fair-order =
     let back =
     resets.it-comes-back-in-any-fair-order hostAsks 3 uneven (fair-order 3 uneven (fair-orders .1)) (lit≤ tt) in
@@ -77,7 +78,8 @@ again =
     ∷ steps theController ∷ steps theController ∷ steps theHost ∷ asks theHost ∷ steps theHost ∷ []
 
 pub nothing-is-stuck : BackWithin 16 (inTurn theHost 16) (after again running)
-nothing-is-stuck = resets.nothing-is-stuck again 2 (inTurn theHost 16) (fair-order 2 (inTurn theHost 16) (fair-orders .0)) (lit≤ tt)
+nothing-is-stuck =
+    resets.nothing-is-stuck again 2 (inTurn theHost 16) (fair-order 2 (inTurn theHost 16) (fair-orders .0)) (lit≤ tt)
 
 -- a controller that is to ask in normal runtime is shown all ones
 pub one-wrong-sight-is-survived : BackWithin 16 (inTurn theHost 16)

@@ -161,7 +161,8 @@ back-from-anywhere history k order fair long =
 
 -- an order that is written out is fair by a test of each k neighbours, so the premise can be met
 abbrev bothStep : ℕ → List End → Bool
-bothStep k order = implies (leb k (length order)) (stepsIn theHost (take k order) && stepsIn theController (take k order))
+bothStep k order =
+    implies (leb k (length order)) (stepsIn theHost (take k order) && stepsIn theController (take k order))
 
 abbrev pub eachFair : ℕ → List End → Bool
 eachFair k [] = bothStep k []

@@ -94,8 +94,8 @@ misled theHost seen e = hostLeaves (hostStep (e .host) seen) e
 misled theController seen e = controllerLeaves (controllerStep (e .controller) seen) e
 
 -- the wrong sights that no waiting can save: the host in phase waiting is shown 1000; the controller in phase asked is
--- shown 1111; the controller at 1000, while the host isn't up yet, is shown an ask of the host's, or, where it is to ask
--- itself, normal runtime
+-- shown 1111; the controller at 1000, while the host isn't up yet, is shown an ask of the host's, or, where it is to
+-- ask itself, normal runtime
 abbrev pub beyondHelp : End → Flags → Ends → Bool
 beyondHelp theHost seen e = hostIs (e .host) host.Waiting && sameFlags seen completed
 beyondHelp theController seen e =
