@@ -1,15 +1,18 @@
 -- The contracts of the public calls leave no choice: two results that one allows on the same input are equal.
 -- Assumes nothing.
-use mathlib.Core.Path.{_≡_, ap}
+use mathlib.Core.Path.{_≡_, ap, sym, _∙_}
+use mathlib.Core.List.{_++_}
 use native.Mathlib.Omega.{arith}
 use contract.Lifetimes.{Lfts}
 use denote.Ref.{now}
+use lib.ListN.{length}
 use Rattle.octets.proofs.Choice.{determined}
 use Rattle.mctp.proofs.Refusals.{number-injective, number-positive}
 use Rattle.smbus.specs.declared.answer.Carried.{Carried}
 use Rattle.smbus.specs.declared.answer.Carried.the-variants as carried
 use Rattle.smbus.specs.declared.answer.Written.{Written}
 use Rattle.smbus.specs.declared.answer.Written.the-variants as written
+use Rattle.smbus.specs.Writing.{writeRefusal, sizeOf, writtenOf}
 use Rattle.smbus.specs.Answers.{numberRead, sourceRead, numberWritten, sizeWritten}
 use Rattle.smbus.proofs.reading.packet.Reads as packet
 use Rattle.smbus.proofs.reading.refusal.Reads as refusal
@@ -17,6 +20,7 @@ use Rattle.smbus.proofs.reading.source.Reads as source
 use Rattle.smbus.proofs.reading.read.Reads as carrying
 use Rattle.smbus.proofs.reading.part.Reads as part
 use Rattle.smbus.proofs.writing.write.Reads as writing
+use Rattle.smbus.proofs.writing.write_apart.Reads as apart
 
 -- Answers that say the same are the same.
 carried-injective : (a b : Carried) → numberRead a ≡ numberRead b → sourceRead a ≡ sourceRead b → a ≡ b
@@ -55,6 +59,25 @@ write-determined κs a r q e f p o = (
   determined (p .1 .1) (o .1 .1),
 )
 
+pub write-apart-determined : (κs : Lfts 3) (a r q e f : _) → apart.Post κs a r e → apart.Post κs a q f
+    → (r ≡ q) × (now (e .1 .0) ≡ now (f .1 .0))
+write-apart-determined κs a r q e f p o = (
+  written-injective r q (determined (p .0) (o .0)) (determined (p .1 .0) (o .1 .0)),
+  determined (p .1 .1) (o .1 .1),
+)
+
+-- A packet written apart, where 64 is the largest body, is the packet written whole: one answer, one output.
+pub apart-is-whole : (κs : Lfts 3) (λs : Lfts 2) (a b r q e f : _) → apart.Post κs a r e → writing.Post λs b q f
+    → a .0 ≡ 64 → a .1 .0 .now ≡ b .0 .now → a .1 .1 .0 .now ++ a .1 .1 .1 .0 .now ≡ b .1 .0 .now
+    → a .1 .1 .1 .1 .0 ≡ b .1 .1 .0 → a .1 .1 .1 .1 .1 .0 ≡ b .1 .1 .1 .0
+    → (r ≡ q) × (now (e .1 .0) ≡ now (f .0))
+apart-is-whole κs λs a b r q e f p o most out packet to by = (
+  written-injective r q
+      (p .0 ∙ (λ i. writeRefusal (most i) (length (out i)) (length (packet i)) (to i) (by i)) ∙ sym (o .0))
+      (p .1 .0 ∙ (λ i. sizeOf (most i) (length (out i)) (length (packet i)) (to i) (by i)) ∙ sym (o .1 .0)),
+  p .1 .1 ∙ (λ i. writtenOf (most i) (out i) (packet i) (to i) (by i)) ∙ sym (o .1 .1),
+)
+
 -- No call asks anything of its arguments first.
 pub no-requires : ((κs : Lfts 1) (a : _) → packet.Pre κs a)
     × ((κs : Lfts 1) (a : _) → refusal.Pre κs a)
@@ -62,4 +85,5 @@ pub no-requires : ((κs : Lfts 1) (a : _) → packet.Pre κs a)
     × ((κs : Lfts 1) (a : _) → carrying.Pre κs a)
     × ((κs : Lfts 1) (a : _) → part.Pre κs a)
     × ((κs : Lfts 2) (a : _) → writing.Pre κs a)
-no-requires = ((λ κs a. tt), (λ κs a. tt), (λ κs a. tt), (λ κs a. tt), (λ κs a. tt), (λ κs a. tt))
+    × ((κs : Lfts 3) (a : _) → apart.Pre κs a)
+no-requires = ((λ κs a. tt), (λ κs a. tt), (λ κs a. tt), (λ κs a. tt), (λ κs a. tt), (λ κs a. tt), (λ κs a. tt))

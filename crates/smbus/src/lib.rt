@@ -11,3 +11,4 @@ pub use reading::read;
 pub use reading::refusal;
 pub use reading::source;
 pub use writing::write;
+pub use writing::write_apart;

@@ -4,6 +4,7 @@ use mctp::LARGEST_BODY;
 use mctp::Outcome;
 use mctp::Refusal;
 ghost use mathlib.Core.Path.{_≡_};
+ghost use mathlib.Core.List.{_++_};
 ghost use Prim.Native.Nat.{_+_, _≤_};
 ghost use lib.ListN.{length};
 ghost use Rattle.octets.specs.Bytes.{fronted};
@@ -21,21 +22,38 @@ pub fn write(out: &mut [u8], packet: &[u8], destination: u8, source: u8) -> Writ
     ensures output { λ _. ⌜ now (out .exit)
         ≡ writtenOf 64 (now (out .entry)) (now (packet .entry)) destination source ⌝ }
 {
-    write_within(LARGEST_BODY, out, packet, destination, source)
+    write_apart(
+        LARGEST_BODY,
+        out,
+        &packet[0..0],
+        packet,
+        destination,
+        source,
+    )
 }
 
-fn write_within(most: usize, out: &mut [u8], packet: &[u8], destination: u8, source: u8) -> Written
-    ensures number { λ r. ⌜ numberWritten r
-        ≡ writeRefusal most (length (now (out .entry))) (length (now (packet .entry))) destination source ⌝ }
-    ensures size { λ r. ⌜ sizeWritten r
-        ≡ sizeOf most (length (now (out .entry))) (length (now (packet .entry))) destination source ⌝ }
+// A packet whose header and body lie apart, with the largest body as a number: who cuts a message needs no buffer of a
+// packet.
+pub fn write_apart(
+    most: usize,
+    out: &mut [u8],
+    header: &[u8],
+    body: &[u8],
+    destination: u8,
+    source: u8,
+) -> Written
+    ensures number { λ r. ⌜ numberWritten r ≡ writeRefusal most (length (now (out .entry)))
+        (length (now (header .entry) ++ now (body .entry))) destination source ⌝ }
+    ensures size { λ r. ⌜ sizeWritten r ≡ sizeOf most (length (now (out .entry)))
+        (length (now (header .entry) ++ now (body .entry))) destination source ⌝ }
     ensures output { λ _. ⌜ now (out .exit)
-        ≡ writtenOf most (now (out .entry)) (now (packet .entry)) destination source ⌝ }
+        ≡ writtenOf most (now (out .entry)) (now (header .entry) ++ now (body .entry)) destination source ⌝ }
 {
-    match may_write(most, out.len(), packet.len(), destination, source) {
+    let size = header.len() + body.len();
+    match may_write(most, out.len(), size, destination, source) {
         Outcome::Good => {
-            fill(out, packet, destination, source);
-            Written::Frame(5 + packet.len())
+            fill(out, header, body, destination, source);
+            Written::Frame(5 + size)
         }
         Outcome::Refused(why) => Written::Refused(why),
     }
@@ -63,18 +81,21 @@ fn may_write(most: usize, room: usize, size: usize, destination: u8, source: u8)
     Outcome::Good
 }
 
-// The head, the packet, and the PEC of both.
-fn fill(out: &mut [u8], packet: &[u8], destination: u8, source: u8)
-    requires { ⌜ (destination ≤ 127) × (source ≤ 127) × (length (now packet) ≤ 250)
-        × (5 + length (now packet) ≤ length (now out)) ⌝ }
-    ensures { λ _. ⌜ now (out .exit) ≡ fronted (now (out .entry)) (frameOf destination source (now (packet .entry))) ⌝ }
+// The head, the packet in its two pieces, and the PEC of all.
+fn fill(out: &mut [u8], header: &[u8], body: &[u8], destination: u8, source: u8)
+    requires { ⌜ (destination ≤ 127) × (source ≤ 127) × (length (now header) + length (now body) ≤ 250)
+        × (5 + (length (now header) + length (now body)) ≤ length (now out)) ⌝ }
+    ensures { λ _. ⌜ now (out .exit) ≡ fronted (now (out .entry))
+        (frameOf destination source (now (header .entry) ++ now (body .entry))) ⌝ }
 {
+    let size = header.len() + body.len();
     out[0] = destination * 2;
     out[1] = 0x0F;
-    out[2] = (1 + packet.len()) as u8;
+    out[2] = (1 + size) as u8;
     out[3] = source * 2 + 1;
-    octets::lay(out, 4, packet);
-    let end = 4 + packet.len();
+    octets::lay(out, 4, header);
+    octets::lay(out, 4 + header.len(), body);
+    let end = 4 + size;
     let check = pec::pec(&out[0..end]);
     out[end] = check;
 }
