@@ -1,14 +1,17 @@
 -- The contracts leave no choice: two results that one allows on the same input are equal, and so is the region at exit.
 -- Assumes nothing.
-use mathlib.Core.Path.{_≡_, refl, ap}
+use mathlib.Core.Path.{_≡_, refl, ap, sym, _∙_}
+use mathlib.Core.List.{_++_}
 use native.Mathlib.Omega.{arith}
 use contract.Lifetimes.{Lfts}
+use lib.ListN.{length}
 use Rattle.octets.proofs.Choice.{determined}
 use Rattle.mctp.proofs.Refusals.{number-injective, number-positive}
 use Rattle.pcc.specs.declared.answer.Carried.{Carried}
 use Rattle.pcc.specs.declared.answer.Carried.the-variants as carried
 use Rattle.pcc.specs.declared.answer.Written.{Written}
 use Rattle.pcc.specs.declared.answer.Written.the-variants as written
+use Rattle.pcc.specs.Writing.{writeRefusal, writtenOf}
 use Rattle.pcc.specs.Answers.{numberRead, sizeRead, notifyRead, numberWritten}
 use Rattle.pcc.proofs.reading.read.Reads as carrying
 use Rattle.pcc.proofs.reading.packet.Reads as packet
@@ -16,6 +19,7 @@ use Rattle.pcc.proofs.reading.refusal.Reads as refusal
 use Rattle.pcc.proofs.reading.notify.Reads as notify
 use Rattle.pcc.proofs.reading.part.Reads as part
 use Rattle.pcc.proofs.writing.write.Reads as writing
+use Rattle.pcc.proofs.writing.write_apart.Reads as apart
 
 -- the number, the size and the flag are the whole answer
 read-injective : (c d : Carried) → numberRead c ≡ numberRead d → sizeRead c ≡ sizeRead d → notifyRead c ≡ notifyRead d
@@ -53,6 +57,21 @@ pub write-determined : (κs : Lfts 2) (a r q e f : _) → writing.Post κs a r e
     → (r ≡ q) × (e .0 .now ≡ f .0 .now)
 write-determined κs a r q e f p o = (written-injective r q (determined (p .0) (o .0)), determined (p .1) (o .1))
 
+pub write-apart-determined : (κs : Lfts 3) (a r q e f : _) → apart.Post κs a r e → apart.Post κs a q f
+    → (r ≡ q) × (e .1 .0 .now ≡ f .1 .0 .now)
+write-apart-determined κs a r q e f p o = (written-injective r q (determined (p .0) (o .0)), determined (p .1) (o .1))
+
+-- A packet written apart, where 64 is the largest body, is the packet written whole: one answer, one region.
+pub apart-is-whole : (κs : Lfts 3) (λs : Lfts 2) (a b r q e f : _) → apart.Post κs a r e → writing.Post λs b q f
+    → a .0 ≡ 64 → a .1 .0 .now ≡ b .0 .now → a .1 .1 .0 ≡ b .1 .0 → a .1 .1 .1 .0 ≡ b .1 .1 .0
+    → a .1 .1 .1 .1 .0 .now ++ a .1 .1 .1 .1 .1 .0 .now ≡ b .1 .1 .1 .0 .now
+    → (r ≡ q) × (e .1 .0 .now ≡ f .0 .now)
+apart-is-whole κs λs a b r q e f p o most region id notify packet = (
+  written-injective r q
+      (p .0 ∙ (λ i. writeRefusal (most i) (length (region i)) (id i) (length (packet i))) ∙ sym (o .0)),
+  p .1 ∙ (λ i. writtenOf (most i) (region i) (id i) (notify i) (packet i)) ∙ sym (o .1),
+)
+
 -- No call asks anything of its arguments first.
 pub no-requires : ((κs : Lfts 1) (a : _) → carrying.Pre κs a)
     × ((κs : Lfts 1) (a : _) → packet.Pre κs a)
@@ -60,4 +79,5 @@ pub no-requires : ((κs : Lfts 1) (a : _) → carrying.Pre κs a)
     × ((κs : Lfts 1) (a : _) → notify.Pre κs a)
     × ((κs : Lfts 1) (a : _) → part.Pre κs a)
     × ((κs : Lfts 2) (a : _) → writing.Pre κs a)
-no-requires = ((λ κs a. tt), (λ κs a. tt), (λ κs a. tt), (λ κs a. tt), (λ κs a. tt), (λ κs a. tt))
+    × ((κs : Lfts 3) (a : _) → apart.Pre κs a)
+no-requires = ((λ κs a. tt), (λ κs a. tt), (λ κs a. tt), (λ κs a. tt), (λ κs a. tt), (λ κs a. tt), (λ κs a. tt))

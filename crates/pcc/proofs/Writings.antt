@@ -3,12 +3,12 @@
 -- Assumes nothing.
 use mathlib.Core.Path.{_≡_, refl, sym, _∙_}
 use mathlib.Core.Bool.{Bool}
-use mathlib.Core.List.{List}
+use mathlib.Core.List.{List, _++_}
 use Prim.Native.Nat.{ℕ, _+_, _≤_}
 use native.Mathlib.Omega.{arith}
 use borrow.Author.Tests.{eq-eqb, ne-eqb}
 use lib.Dec.{eqb}
-use lib.ListN.{length}
+use lib.ListN.{length, length-append}
 use Rattle.octets.specs.Bytes.{laid, fronted}
 use Rattle.octets.specs.Words.{lowFirst, wordBytes}
 use Rattle.octets.proofs.Checks.{FailsAt, answerAt, first-failing, none-failing, all-hold, tests}
@@ -41,23 +41,28 @@ module _ (most room id size : ℕ) where
   good e =
       let hold = all-hold (λ n. eqb n 0) (writeOrder most room id size) 0 refl (eq-eqb _ 0 e) in omega (arith, tests)
 
-module _ (region packet : List ℕ) (id : ℕ) (notify : Bool) where
-  -- the words and the packet laid one after the other make the front
-  pub filled : 16 + length packet ≤ length region
-      → let one = laid region 0 (wordBytes lowFirst (signatureOf id)) in
-      let two = laid one 4 (wordBytes lowFirst (flagsOf notify)) in
-      let three = laid two 8 (wordBytes lowFirst (lengthOf (length packet))) in
-      let four = laid three 12 (wordBytes lowFirst command) in
-      laid four 16 packet ≡ fronted region (regionOf id notify packet)
-  unfolding regionOf wordBytes
-  filled h =
-      sym
-      (laid-append region 0 (wordBytes lowFirst (signatureOf id)) _
-      ∙ laid-append _ 4 (wordBytes lowFirst (flagsOf notify)) _
-      ∙ laid-append _ 8 (wordBytes lowFirst (lengthOf (length packet))) _
-      ∙ laid-append _ 12 (wordBytes lowFirst command) packet)
-      ∙ laid-front region (regionOf id notify packet) (omega arith)
+-- the words and the two pieces of the packet, laid one after the other, make the front
+pub filled : (region header body : List ℕ) (id : ℕ) (notify : Bool)
+    → 16 + (length header + length body) ≤ length region
+    → let one = laid region 0 (wordBytes lowFirst (signatureOf id)) in
+    let two = laid one 4 (wordBytes lowFirst (flagsOf notify)) in
+    let three = laid two 8 (wordBytes lowFirst (lengthOf (length header + length body))) in
+    let four = laid three 12 (wordBytes lowFirst command) in
+    laid (laid four 16 header) (16 + length header) body ≡ fronted region (regionOf id notify (header ++ body))
+unfolding regionOf wordBytes
+filled region header body id notify h =
+    let packet = header ++ body in
+    let size : length packet ≡ length header + length body = length-append header body in
+    rw (sym size)
+    (sym
+    (laid-append region 0 (wordBytes lowFirst (signatureOf id)) _
+    ∙ laid-append _ 4 (wordBytes lowFirst (flagsOf notify)) _
+    ∙ laid-append _ 8 (wordBytes lowFirst (lengthOf (length packet))) _
+    ∙ laid-append _ 12 (wordBytes lowFirst command) packet
+    ∙ laid-append _ 16 header body)
+    ∙ laid-front region (regionOf id notify packet) (omega arith))
 
+module _ (region packet : List ℕ) (id : ℕ) (notify : Bool) where
   -- written where nothing is refused
   pub written-whole : (most : ℕ) → writeRefusal most (length region) id (length packet) ≡ 0
       → writtenOf most region id notify packet ≡ fronted region (regionOf id notify packet)

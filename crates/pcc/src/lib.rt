@@ -12,3 +12,4 @@ pub use reading::part;
 pub use reading::read;
 pub use reading::refusal;
 pub use writing::write;
+pub use writing::write_apart;

@@ -6,6 +6,7 @@ use mctp::LARGEST_BODY;
 use mctp::Outcome;
 use mctp::Refusal;
 ghost use mathlib.Core.Path.{_≡_};
+ghost use mathlib.Core.List.{_++_};
 ghost use Prim.Native.Nat.{_+_, _≤_};
 ghost use lib.ListN.{length};
 ghost use Rattle.octets.specs.Bytes.{fronted};
@@ -20,18 +21,27 @@ pub fn write(region: &mut [u8], id: u32, notify: bool, packet: &[u8]) -> Written
         (length (now (packet .entry))) ⌝ }
     ensures region { λ _. ⌜ now (region .exit) ≡ writtenOf 64 (now (region .entry)) id notify (now (packet .entry)) ⌝ }
 {
-    write_within(LARGEST_BODY, region, id, notify, packet)
+    write_apart(LARGEST_BODY, region, id, notify, &packet[0..0], packet)
 }
 
-fn write_within(most: usize, region: &mut [u8], id: u32, notify: bool, packet: &[u8]) -> Written
+// A packet whose header and body lie apart, with the largest body as a number: who cuts a message needs no buffer of a
+// packet.
+pub fn write_apart(
+    most: usize,
+    region: &mut [u8],
+    id: u32,
+    notify: bool,
+    header: &[u8],
+    body: &[u8],
+) -> Written
     ensures number { λ r. ⌜ numberWritten r ≡ writeRefusal most (length (now (region .entry))) id
-        (length (now (packet .entry))) ⌝ }
+        (length (now (header .entry) ++ now (body .entry))) ⌝ }
     ensures region { λ _. ⌜ now (region .exit) ≡ writtenOf most (now (region .entry)) id notify
-        (now (packet .entry)) ⌝ }
+        (now (header .entry) ++ now (body .entry)) ⌝ }
 {
-    match may_write(most, region.len(), id, packet.len()) {
+    match may_write(most, region.len(), id, header.len() + body.len()) {
         Outcome::Good => {
-            fill(region, id, notify, packet);
+            fill(region, id, notify, header, body);
             Written::Whole
         }
         Outcome::Refused(why) => Written::Refused(why),
@@ -60,16 +70,20 @@ fn may_write(most: usize, room: usize, id: u32, size: usize) -> Outcome
     Outcome::Good
 }
 
-// The four words and the packet, one after the other.
-fn fill(region: &mut [u8], id: u32, notify: bool, packet: &[u8])
-    requires { ⌜ (id ≤ 255) × (length (now packet) ≤ 250) × (16 + length (now packet) ≤ length (now region)) ⌝ }
-    ensures { λ _. ⌜ now (region .exit) ≡ fronted (now (region .entry)) (regionOf id notify (now (packet .entry))) ⌝ }
+// The four words and the packet in its two pieces, one after the other.
+fn fill(region: &mut [u8], id: u32, notify: bool, header: &[u8], body: &[u8])
+    requires { ⌜ (id ≤ 255) × (length (now header) + length (now body) ≤ 250)
+        × (16 + (length (now header) + length (now body)) ≤ length (now region)) ⌝ }
+    ensures { λ _. ⌜ now (region .exit) ≡ fronted (now (region .entry))
+        (regionOf id notify (now (header .entry) ++ now (body .entry))) ⌝ }
 {
+    let size = header.len() + body.len();
     octets::lay_low_first(region, 0, SIGNATURE + id);
     octets::lay_low_first(region, 4, flags(notify));
-    octets::lay_low_first(region, 8, (4 + packet.len()) as u32);
+    octets::lay_low_first(region, 8, (4 + size) as u32);
     octets::lay_low_first(region, 12, COMMAND);
-    octets::lay(region, 16, packet);
+    octets::lay(region, 16, header);
+    octets::lay(region, 16 + header.len(), body);
 }
 
 fn flags(notify: bool) -> u32
