@@ -2,6 +2,7 @@
 -- Assumes nothing.
 use mathlib.Core.Path.{_≡_}
 use mathlib.Core.Bool.{Bool}
+use mathlib.Core.List.{List}
 use Prim.Native.Nat.{ℕ}
 use contract.Lifetimes.{Lfts}
 use Rattle.octets.proofs.Choice.{determined}
@@ -15,6 +16,7 @@ use Rattle.mctp.proofs.packet.body_right.Reads as body-right
 use Rattle.mctp.proofs.packet.size_right.Reads as size-right
 use Rattle.mctp.proofs.packet.key_of.Reads as key-of
 use Rattle.mctp.proofs.packet.header_of.Reads as header-of
+use Rattle.mctp.proofs.packet.header_bytes.Reads as header-bytes
 use Rattle.mctp.proofs.packet.same_key.Reads as same-key
 use Rattle.mctp.proofs.refusal.Refusal.number.Reads as number
 
@@ -50,6 +52,10 @@ pub header-of-determined : (κs : Lfts 1) (a : _) (r q : Header) (e f : _)
     → header-of.Post κs a r e → header-of.Post κs a q f → r ≡ q
 header-of-determined κs a r q e f p o = determined p o
 
+pub header-bytes-determined : (κs : Lfts 0) (a : _) (r q : List ℕ) (e f : _)
+    → header-bytes.Post κs a r e → header-bytes.Post κs a q f → r ≡ q
+header-bytes-determined κs a r q e f p o = determined p o
+
 pub same-key-determined : (κs : Lfts 0) (a : _) (r q : Bool) (e f : _)
     → same-key.Post κs a r e → same-key.Post κs a q f → r ≡ q
 same-key-determined κs a r q e f p o = determined p o
@@ -66,9 +72,11 @@ pub no-requires : ((κs : Lfts 0) (a : _) → is-null.Pre κs a)
     × ((κs : Lfts 0) (a : _) → size-right.Pre κs a)
     × ((κs : Lfts 1) (a : _) → key-of.Pre κs a)
     × ((κs : Lfts 1) (a : _) → header-of.Pre κs a)
+    × ((κs : Lfts 0) (a : _) → header-bytes.Pre κs a)
     × ((κs : Lfts 0) (a : _) → same-key.Pre κs a)
     × ((κs : Lfts 0) (a : _) → number.Pre κs a)
 no-requires = (
+  (λ κs a. tt),
   (λ κs a. tt),
   (λ κs a. tt),
   (λ κs a. tt),

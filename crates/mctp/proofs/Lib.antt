@@ -1,4 +1,5 @@
 pub mod Keys
+pub mod Headers
 pub mod Refusals
 pub mod Determined
 pub mod Literal

@@ -6,7 +6,7 @@ use mathlib.Core.List.{List, [], _∷_, map}
 use Prim.Native.Nat.{ℕ}
 use Rattle.mctp.specs.Eid.{nullEid, broadcastEid, reservedEid, endpointEid}
 use Rattle.mctp.specs.Packet.{versionOf, sizeRight, bodyRight}
-use Rattle.mctp.specs.Key.{keyOf, headerOf}
+use Rattle.mctp.specs.Key.{keyOf, headerOf, flagsFor, headerBytes}
 
 -- `F1 09 0A BD`: BD is 1011 1101, so start and not end, sequence 11, tag owner, tag 101; F is reserved
 pub header : headerOf (0xF1 ∷ 9 ∷ 10 ∷ 0xBD ∷ 0x7E ∷ [])
@@ -31,6 +31,32 @@ pub header-too : headerOf (2 ∷ 0xFF ∷ 8 ∷ 0x56 ∷ [])
     }
 unfolding headerOf keyOf
 header-too = refl
+
+-- the first as bytes: the reserved bits are clear
+pub header-written : headerBytes
+    (record {
+      version = 1;
+      start = true;
+      end = false;
+      sequence = 3;
+      key = record { destination = record { 0 = 9 }; source = record { 0 = 10 }; owner = true; tag = 5 };
+    })
+    ≡ 0x01 ∷ 9 ∷ 10 ∷ 0xBD ∷ []
+unfolding headerBytes flagsFor
+header-written = refl
+
+-- the second with numbers that are too large for their fields
+pub header-written-too : headerBytes
+    (record {
+      version = 18;
+      start = false;
+      end = true;
+      sequence = 5;
+      key = record { destination = record { 0 = 255 }; source = record { 0 = 8 }; owner = false; tag = 14 };
+    })
+    ≡ 2 ∷ 0xFF ∷ 8 ∷ 0x56 ∷ []
+unfolding headerBytes flagsFor
+header-written-too = refl
 
 -- "low four bits version, 1": 0, 1, 2, 9 and 15, the last two of them with reserved bits
 pub versions : map (λ (b : ℕ). versionOf (b ∷ [])) (0 ∷ 1 ∷ 2 ∷ 0x39 ∷ 0xFF ∷ []) ≡ 0 ∷ 1 ∷ 2 ∷ 9 ∷ 15 ∷ []

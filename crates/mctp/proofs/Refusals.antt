@@ -10,6 +10,7 @@ use Rattle.mctp.specs.declared.refusal.Refusal.the-variants.{Setup, Room
 use Rattle.mctp.specs.declared.refusal.Refusal.the-variants.{SourceBit, Pec, Signature, Descriptor, NotRunning}
 use Rattle.mctp.specs.declared.refusal.Refusal.the-variants.{Pointer, BadPacket, OtherKind, Version, NotOurs}
 use Rattle.mctp.specs.declared.refusal.Refusal.the-variants.{Source, NoSlot, NoStart, Sequence, Unit, TooLong}
+use Rattle.mctp.specs.declared.refusal.Refusal.the-variants.{PastEnd}
 use Rattle.mctp.specs.Refusals.{numberOf}
 
 -- the refusals in the order of their numbers; place 0 is not used
@@ -17,7 +18,7 @@ byNumber : List Refusal
 byNumber =
     Setup ∷ Setup ∷ Room ∷ Size ∷ Address ∷ Command ∷ Count ∷ SourceBit ∷ Pec ∷ Signature ∷ Descriptor ∷ NotRunning
     ∷ Pointer ∷ BadPacket ∷ OtherKind ∷ Version ∷ NotOurs ∷ Source ∷ NoSlot ∷ NoStart ∷ Sequence ∷ Unit ∷ TooLong
-    ∷ []
+    ∷ PastEnd ∷ []
 
 named : (r : Refusal) → getD byNumber (numberOf r) Setup ≡ r
 unfolding byNumber
@@ -43,6 +44,7 @@ named NoStart = refl
 named Sequence = refl
 named Unit = refl
 named TooLong = refl
+named PastEnd = refl
 
 -- two refusals with one number are one refusal
 pub number-injective : (r s : Refusal) → numberOf r ≡ numberOf s → r ≡ s
@@ -72,3 +74,4 @@ number-positive NoStart = lit≤ tt
 number-positive Sequence = lit≤ tt
 number-positive Unit = lit≤ tt
 number-positive TooLong = lit≤ tt
+number-positive PastEnd = lit≤ tt

@@ -1,9 +1,10 @@
--- The key under which a message is gathered, and a packet's header whole.
+-- The key under which a message is gathered, a packet's header whole, and its bytes.
 -- Assumes nothing.
 use mathlib.Core.Bool.{Bool, Bool·beq, _&&_}
-use mathlib.Core.List.{List}
-use Prim.Native.Nat.{ℕ}
+use mathlib.Core.List.{List, [], _∷_}
+use Prim.Native.Nat.{ℕ, _+_, _*_, _%_}
 use lib.Dec.{eqb}
+use Rattle.octets.specs.Choice.{pick}
 use Rattle.mctp.specs.declared.packet.Key.{Key}
 use Rattle.mctp.specs.declared.packet.Header.{Header}
 use Rattle.mctp.specs.Packet.{versionOf, destinationOf, sourceOf, startOf, endOf, sequenceOf, ownerOf, tagOf}
@@ -21,6 +22,20 @@ keyOf p =
 -- the whole header of a packet
 unfoldable pub headerOf : List ℕ → Header
 headerOf p = record { version = versionOf p; start = startOf p; end = endOf p; sequence = sequenceOf p; key = keyOf p }
+
+-- a flag as a number
+abbrev pub bit : Bool → ℕ
+bit b = pick b 1 0
+
+-- "Byte 3: bit 7 start, bit 6 end, bits 5..4 sequence, bit 3 tag owner, bits 2..0 tag."
+unfoldable pub flagsFor : Header → ℕ
+flagsFor h =
+    bit (h .start) * 128 + bit (h .end) * 64 + h .sequence % 4 * 16 + bit (h .key .owner) * 8 + h .key .tag % 8
+
+-- the four bytes of a header: byte 0 with its reserved bits clear, "Byte 1: destination EID. Byte 2: source EID.", and
+-- byte 3; of a number that is too large for its field the low bits
+unfoldable pub headerBytes : Header → List ℕ
+headerBytes h = h .version % 16 ∷ h .key .destination .0 ∷ h .key .source .0 ∷ flagsFor h ∷ []
 
 -- two keys are one: all four parts are
 unfoldable pub sameKey : Key → Key → Bool

@@ -1,4 +1,4 @@
--- Document 01's refusal numbers, one for each name.
+-- The refusal numbers of documents 01 and 02, one for each name.
 -- Assumes nothing.
 use Prim.Native.Nat.{ℕ}
 use Rattle.mctp.specs.declared.refusal.Outcome.{Outcome}
@@ -8,6 +8,7 @@ use Rattle.mctp.specs.declared.refusal.Refusal.the-variants.{Setup, Room
 use Rattle.mctp.specs.declared.refusal.Refusal.the-variants.{SourceBit, Pec, Signature, Descriptor, NotRunning}
 use Rattle.mctp.specs.declared.refusal.Refusal.the-variants.{Pointer, BadPacket, OtherKind, Version, NotOurs}
 use Rattle.mctp.specs.declared.refusal.Refusal.the-variants.{Source, NoSlot, NoStart, Sequence, Unit, TooLong}
+use Rattle.mctp.specs.declared.refusal.Refusal.the-variants.{PastEnd}
 
 -- "Refusal numbers": the table, line by line
 abbrev pub numberOf : Refusal → ℕ
@@ -33,6 +34,8 @@ numberOf NoStart = 19
 numberOf Sequence = 20
 numberOf Unit = 21
 numberOf TooLong = 22
+-- "23 for k past the end" (document 02, #101)
+numberOf PastEnd = 23
 
 -- an outcome's number: 0 where good
 abbrev pub outcomeNumber : Outcome → ℕ

@@ -8,6 +8,7 @@ pub use packet::Header;
 pub use packet::Key;
 pub use packet::LARGEST_BODY;
 pub use packet::body_right;
+pub use packet::header_bytes;
 pub use packet::header_of;
 pub use packet::key_of;
 pub use packet::same_key;

@@ -1,7 +1,8 @@
 // A packet's size, its header, and the key under which its message is gathered.
 use crate::eid::Eid;
 ghost use mathlib.Core.Path.{_≡_};
-ghost use Rattle.mctp.specs.Key.{keyOf, headerOf, sameKey};
+ghost use Prim.Native.Nat.{_≤_};
+ghost use Rattle.mctp.specs.Key.{keyOf, headerOf, bit, headerBytes, sameKey};
 ghost use Rattle.mctp.specs.Packet.{bodyRight, sizeRight};
 
 // "64 is the baseline unit": the largest body of the base.
@@ -66,6 +67,29 @@ pub fn header_of(packet: &[u8]) -> Header
         sequence: (flags / 16 % 4) as u8,
         key: key_of(packet),
     }
+}
+
+// The four bytes of a header; of a number that is too large for its field, the low bits.
+pub fn header_bytes(header: Header) -> [u8; 4]
+    ensures { λ r. ⌜ r ≡ headerBytes header ⌝ }
+{
+    let flags = bit(header.start) * 128
+        + bit(header.end) * 64
+        + header.sequence % 4 * 16
+        + bit(header.key.owner) * 8
+        + header.key.tag % 8;
+    [
+        header.version % 16,
+        header.key.destination.0,
+        header.key.source.0,
+        flags,
+    ]
+}
+
+fn bit(b: bool) -> u8
+    ensures { λ r. ⌜ (r ≡ bit b) × (r ≤ 1) ⌝ }
+{
+    if b { 1 } else { 0 }
 }
 
 // Whether two keys are one: all four fields are.

@@ -1,4 +1,4 @@
-// The refusals of document 01, by name; each has one number.
+// The refusals of documents 01 and 02, by name; each has one number.
 ghost use mathlib.Core.Path.{_≡_};
 ghost use Rattle.mctp.specs.Refusals.{numberOf};
 
@@ -25,6 +25,7 @@ pub enum Refusal {
     Sequence,
     Unit,
     TooLong,
+    PastEnd,
 }
 
 // What a check gives: good, or the refusal.
@@ -60,6 +61,7 @@ impl Refusal {
             Refusal::Sequence => 20,
             Refusal::Unit => 21,
             Refusal::TooLong => 22,
+            Refusal::PastEnd => 23,
         }
     }
 }

@@ -13,7 +13,7 @@ told e = sym (ap numberOf e)
 pub number-spec : {M : Type 1} → statement M
 number-spec =
     tie.close
-    (tie.spec (λ c. search needs) (λ c. search needs) (λ c. search needs) (λ c. search needs) (λ c. search needs)
+    (tie.spec (λ c. search needs) (λ c. search needs) (λ c. search needs) (λ c. search needs) (λ c. search needs) (λ c. search needs)
     (λ c. search needs) (λ c. search needs) (λ c. search needs) (λ c. search needs) (λ c. search needs)
     (λ c. search needs) (λ c. search needs) (λ c. search needs) (λ c. search needs) (λ c. search needs)
     (λ c. search needs) (λ c. search needs) (λ c. search needs) (λ c. search needs) (λ c. search needs)
@@ -26,4 +26,5 @@ number-spec =
     (λ c. told (c .enum-told15 .given .1)) (λ c. told (c .enum-told16 .given .1))
     (λ c. told (c .enum-told17 .given .1)) (λ c. told (c .enum-told18 .given .1))
     (λ c. told (c .enum-told19 .given .1)) (λ c. told (c .enum-told20 .given .1))
-    (λ c. told (c .enum-told21 .given .1)) (λ c. told (c .enum-told22 .given .1)))
+    (λ c. told (c .enum-told21 .given .1)) (λ c. told (c .enum-told22 .given .1))
+    (λ c. told (c .enum-told23 .given .1)))
