@@ -9,3 +9,4 @@ pub use answer::Carried;
 pub use answer::Written;
 pub use reading::read;
 pub use writing::write;
+pub use writing::write_apart;

@@ -6,6 +6,7 @@ use mctp::Refusal;
 use mmbi::Flags;
 use mmbi::Pointers;
 ghost use mathlib.Core.Path.{_≡_};
+ghost use mathlib.Core.List.{_++_};
 ghost use Prim.Native.Nat.{_+_, _≤_, _<_};
 ghost use lib.ListN.{length};
 ghost use Rattle.mmbi.specs.Interface.{stateOf, mayWrite};
@@ -27,46 +28,48 @@ pub fn write(
     ensures ring { λ _. ⌜ now (ring .exit) ≡ writtenOf 64 (now (ring .entry)) configured (mayWrite (stateOf flags))
         (pointers .read) (pointers .write) (now (packet .entry)) ⌝ }
 {
-    let running = mmbi::may_write(mmbi::state(flags));
-    write_within(
+    write_apart(
         mctp::LARGEST_BODY,
         ring,
         configured,
-        running,
-        pointers.read,
-        pointers.write,
+        flags,
+        pointers,
+        &packet[0..0],
         packet,
     )
 }
 
-// Writing with the largest body as a number.
-fn write_within(
+// A packet whose header and body lie apart, put into the ring at the write pointer, with the largest body as a number.
+// So who cuts a message into packets needs no buffer of a packet to join the two in.
+pub fn write_apart(
     most: usize,
     ring: &mut [u8],
     configured: usize,
-    running: bool,
-    read: usize,
-    write: usize,
-    packet: &[u8],
+    flags: Flags,
+    pointers: Pointers,
+    header: &[u8],
+    body: &[u8],
 ) -> Written
-    ensures answer { λ r. ⌜ enteredIn r ≡ enteredOf most (length (now (ring .entry))) configured running read write
-        (length (now (packet .entry))) ⌝ }
-    ensures ring { λ _. ⌜ now (ring .exit) ≡ writtenOf most (now (ring .entry)) configured running read write
-        (now (packet .entry)) ⌝ }
+    ensures answer { λ r. ⌜ enteredIn r ≡ enteredOf most (length (now (ring .entry))) configured
+        (mayWrite (stateOf flags)) (pointers .read) (pointers .write)
+        (length (now (header .entry) ++ now (body .entry))) ⌝ }
+    ensures ring { λ _. ⌜ now (ring .exit) ≡ writtenOf most (now (ring .entry)) configured (mayWrite (stateOf flags))
+        (pointers .read) (pointers .write) (now (header .entry) ++ now (body .entry)) ⌝ }
 {
+    let running = mmbi::may_write(mmbi::state(flags));
     let entered = judge(
         most,
         ring.len(),
         configured,
         running,
-        read,
-        write,
-        packet.len(),
+        pointers.read,
+        pointers.write,
+        header.len() + body.len(),
     );
     let Written::Stored(_) = entered else {
         return entered;
     };
-    fill(ring, write, packet);
+    fill(ring, pointers.write, header, body);
     entered
 }
 
@@ -102,18 +105,22 @@ fn judge(
     Written::Stored(number::next(configured, write, whole))
 }
 
-// The packet with its header and its padding, stored from the write pointer on. Pointers are multiples of 4, as the
-// length is, so the header's four bytes don't run over the ring's end.
-fn fill(ring: &mut [u8], write: usize, packet: &[u8])
-    requires { ⌜ (length (now ring) ≤ 65536) × (write + 4 ≤ length (now ring)) × (length (now packet) ≤ 250)
-        × (wholeFor (length (now packet)) ≤ length (now ring)) ⌝ }
-    ensures { λ _. ⌜ now (ring .exit) ≡ stored (now (ring .entry)) write (ringBytes (now (packet .entry))) ⌝ }
+// The ring's header, the packet's two pieces and the padding, stored one after the other from the write pointer on.
+// Pointers are multiples of 4, as the length is, so the four bytes of the ring's header don't run over the ring's end;
+// a piece may.
+fn fill(ring: &mut [u8], write: usize, header: &[u8], body: &[u8])
+    requires { ⌜ (length (now ring) ≤ 65536) × (write + 4 ≤ length (now ring))
+        × (length (now header) + length (now body) ≤ 250)
+        × (wholeFor (length (now header) + length (now body)) ≤ length (now ring)) ⌝ }
+    ensures { λ _. ⌜ now (ring .exit) ≡ stored (now (ring .entry)) write
+        (ringBytes (now (header .entry) ++ now (body .entry))) ⌝ }
 {
-    let size = packet.len();
+    let size = header.len() + body.len();
     let padding = padding_for(size);
     let lent = ring.len();
     octets::lay_high_first(ring, write, header_for(size));
-    round::copy_in(ring, number::next(lent, write, 4), packet);
+    round::copy_in(ring, number::next(lent, write, 4), header);
+    round::copy_in(ring, number::next(lent, write, 4 + header.len()), body);
     let zeros = [0u8; 3];
     round::copy_in(
         ring,

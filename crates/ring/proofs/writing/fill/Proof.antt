@@ -1,6 +1,7 @@
--- `ring::writing::fill` meets its contract: header, packet and padding, stored one after the other, are stored as one.
+-- `ring::writing::fill` meets its contract: the ring's header, the packet's two pieces and the padding, stored one
+-- after the other, are stored as one.
 -- Assumes nothing.
-use mathlib.Core.Path.{_≡_, refl, ap, sym, _∙_}
+use mathlib.Core.Path.{_≡_, refl, _∙_}
 use mathlib.Core.List.{List, [], _∷_, _++_, append-assoc}
 use Prim.Native.Nat.{ℕ, zero, suc, _+_, _-_, _≤_, _<_}
 use native.Mathlib.Nat.{sub-zero}
@@ -28,43 +29,38 @@ zeros-front (suc (suc zero)) h = refl
 zeros-front (suc (suc (suc zero))) h = refl
 zeros-front (suc (suc (suc (suc n)))) h = absurd (omega arith)
 
-module _ (ring packet : List ℕ) (p : ℕ) (straight : p + 4 ≤ length ring)
-    (fits : wholeFor (length packet) ≤ length ring) where
-  all : stored (stored (laid ring p (wordBytes highFirst (headerFor (length packet))))
-      (nextOf (length ring) p 4) packet) (nextOf (length ring) p (4 + length packet))
-      (replicate (paddingFor (length packet)) 0) ≡ stored ring p (ringBytes packet)
-  unfolding ringBytes
-  all =
-      let w = wordBytes highFirst (headerFor (length packet)) in
-      let four : length w ≡ 4 = word-length highFirst (headerFor (length packet)) in
-      let pad = replicate {A = ℕ} (paddingFor (length packet)) 0 in
-      let more : length pad ≡ paddingFor (length packet) = length-replicate {A = ℕ} (paddingFor (length packet)) 0 in
-      let front : length (w ++ packet) ≡ 4 + length packet = length-append w packet
-      ∙ ap (λ (n : ℕ). n + length packet) four in
-      ap (λ (s : List ℕ). stored (stored s (nextOf (length ring) p 4) packet)
-      (nextOf (length ring) p (4 + length packet)) pad) (stored-straight ring p w (omega arith) (omega arith))
-      ∙ ap (λ (n : ℕ). stored (stored (stored ring p w) (nextOf (length ring) p n) packet)
-      (nextOf (length ring) p (4 + length packet)) pad) (sym four)
-      ∙ ap (λ (s : List ℕ). stored s (nextOf (length ring) p (4 + length packet)) pad)
-      (stored-stored ring p (omega arith) w packet (omega arith))
-      ∙ ap (λ (n : ℕ). stored (stored ring p (w ++ packet)) (nextOf (length ring) p n) pad) (sym front)
-      ∙ stored-stored ring p (omega arith) (w ++ packet) pad (omega arith)
-      ∙ ap (stored ring p) (append-assoc w packet pad)
+module _ (ring : List ℕ) (p : ℕ) (straight : p + 4 ≤ length ring) where
+  -- one piece more, stored where the n bytes before it end
+  piece : (a b : List ℕ) {l m : List ℕ} {q n : ℕ} → l ≡ stored ring p a → length a ≡ n → q ≡ nextOf (length ring) p n
+      → n + length b ≤ length ring → m ≡ stored l q b → m ≡ stored ring p (a ++ b)
+  piece a b f e g fits h = rw (h, f, g, ← e) (stored-stored ring p (omega arith) a b (omega arith))
 
-  steps : (l0 l1 l2 : List ℕ) (header padding q1 q2 : ℕ) → header ≡ headerFor (length packet)
-      → padding ≡ paddingFor (length packet) → q1 ≡ nextOf (length ring) p 4
-      → q2 ≡ nextOf (length ring) p (4 + length packet)
-      → l0 ≡ laid ring p (wordBytes highFirst header) → l1 ≡ stored l0 q1 packet
-      → l2 ≡ stored l1 q2 (take (padding - 0) zeros) → l2 ≡ stored ring p (ringBytes packet)
-  steps l0 l1 l2 header padding q1 q2 eh ep e1 e2 f0 f1 f2 =
-      let pad : take (padding - 0) zeros ≡ replicate (paddingFor (length packet)) 0 =
-      ap (λ (n : ℕ). take n zeros) (sub-zero padding ∙ ep)
-      ∙ zeros-front (paddingFor (length packet)) (omega arith) in
-      rw (f2, f1, f0, pad, eh, e1, e2) all
+  module _ (header body : List ℕ) (fits : wholeFor (length header + length body) ≤ length ring) where
+    steps : {l0 l1 l2 l3 : List ℕ} {word padding q1 q2 q3 : ℕ} → word ≡ headerFor (length header + length body)
+        → padding ≡ paddingFor (length header + length body) → q1 ≡ nextOf (length ring) p 4
+        → q2 ≡ nextOf (length ring) p (4 + length header)
+        → q3 ≡ nextOf (length ring) p (4 + (length header + length body))
+        → l0 ≡ laid ring p (wordBytes highFirst word) → l1 ≡ stored l0 q1 header → l2 ≡ stored l1 q2 body
+        → l3 ≡ stored l2 q3 (take (padding - 0) zeros) → l3 ≡ stored ring p (ringBytes (header ++ body))
+    unfolding ringBytes
+    steps {word = word} {padding = padding} ew ep e1 e2 e3 f0 f1 f2 f3 =
+        let w = wordBytes highFirst word in
+        let pad : List ℕ = replicate padding 0 in
+        let four : length w ≡ 4 = word-length highFirst word in
+        let two : length (w ++ header) ≡ 4 + length header = simp length-append (omega arith) in
+        let three : length (w ++ header ++ body) ≡ 4 + (length header + length body) =
+        simp length-append (omega arith) in
+        let long : length pad ≡ padding = length-replicate {A = ℕ} padding 0 in
+        let front : take (padding - 0) zeros ≡ pad = rw sub-zero (zeros-front padding (omega arith)) in
+        let s0 = f0 ∙ stored-straight ring p w (omega arith) (omega arith) in
+        let s1 = piece w header s0 four e1 (omega arith) f1 in
+        let s2 = piece (w ++ header) body s1 two e2 (omega arith) f2 in
+        let s3 = piece (w ++ header ++ body) pad s2 three e3 (omega arith) (rw front at f3) in
+        rw (length-append header body, ← ew, ← ep) (s3 ∙ simp append-assoc)
 
--- the start, and where padding, header and packet came in, each from the place behind it
+-- the start, and where padding, header and the packet's pieces came in, each from the place behind it
 abbrev start : tie.After-padding-for → tie.Start
-start c = c .before .before .before
+start c = c .before .before .before .before
 
 abbrev padded : tie.After-lay-high-first → tie.After-padding-for
 padded c = c .before .before .before
@@ -75,39 +71,57 @@ headed c = c .before .before .before .before
 abbrev copied : tie.After-next2 → tie.After-copy-in
 copied c = c .before .before .before .before
 
+abbrev joined : tie.After-next3 → tie.After-copy-in2
+joined c = c .before .before .before .before
+
 copy-in-requires : tie.Need-copy-in-requires
 copy-in-requires c κs =
     let a = start (padded (headed c)) .args in
     let kept = headed c .lay-high-first .kept .0 in (
-      omega (arith, c .next .ensures, kept, next-below (length (a .ring .now)) (a .write) 4 (omega arith)),
-      omega (arith, kept),
+      omega (arith, next-below (length (a .ring .now)) (a .write) 4 (omega arith)),
+      omega arith,
     )
 
 copy-in-requires-2 : tie.Need-copy-in-requires-2
 copy-in-requires-2 c κs =
-    let n = c .before .before in
-    let h = headed (copied n .before) in
+    let h = headed (copied c .before) in
     let a = start (padded h) .args in
     let kept = h .lay-high-first .kept .0 in
-    let again = copied n .copy-in .kept .0 in
-    let after = next-below (length (a .ring .now)) (a .write) (4 + length (a .packet .now)) (omega arith) in (
-      omega (arith, n .next2 .ensures, kept, again, after),
-      omega (arith, kept, again, length-take (padded h .padding-for .result - 0) zeros),
+    let again = copied c .copy-in .kept .0 in (
+      omega (arith, next-below (length (a .ring .now)) (a .write) (4 + length (a .header .now)) (omega arith)),
+      omega arith,
+    )
+
+copy-in-requires-3 : tie.Need-copy-in-requires-3
+copy-in-requires-3 c κs =
+    let n = c .before .before in
+    let m = joined n .before in
+    let h = headed (copied m .before) in
+    let a = start (padded h) .args in
+    let kept = h .lay-high-first .kept .0 in
+    let again = copied m .copy-in .kept .0 in
+    let last = joined n .copy-in2 .kept .0 in
+    let size = length (a .header .now) + length (a .body .now) in (
+      omega (arith, next-below (length (a .ring .now)) (a .write) (4 + size) (omega arith)),
+      omega (arith, length-take (padded h .padding-for .result - 0) zeros),
     )
 
 returns : tie.Need-returns
 returns c =
     let n = c .before .before .before .before .before in
-    let first = copied n .before in
+    let m = joined n .before in
+    let first = copied m .before in
     let h = headed first in
-    let a = start (padded h) .args in
-    steps (a .ring .now) (a .packet .now) (a .write) (omega arith) (omega arith) _ _ _ _ _ _ _
-    (h .before .header-for .ensures) (padded h .padding-for .ensures) (first .next .ensures) (n .next2 .ensures)
-    (h .lay-high-first .ensures) (copied n .copy-in .ensures) (c .before .before .copy-in2 .ensures)
+    let s = start (padded h) in
+    steps (s .args .ring .now) (s .args .write) (s .pre .1) (s .args .header .now) (s .args .body .now) (s .pre .3)
+    (h .before .header-for .ensures) (padded h .padding-for .ensures) (first .next .ensures) (m .next2 .ensures)
+    (n .next3 .ensures) (h .lay-high-first .ensures) (copied m .copy-in .ensures) (joined n .copy-in2 .ensures)
+    (c .before .before .copy-in3 .ensures)
 
 pub fill-spec : {M : Type 1} → statement M
 fill-spec =
     tie.close
-    (tie.spec (λ c κs. search needs) (λ c κs. search needs) (λ c κs. search needs) (λ c κs. search needs)
-    copy-in-requires (λ c. search needs) (λ c κs. search needs) (λ c. search needs) (λ c. search needs)
-    (λ c. search needs) copy-in-requires-2 (λ c. search needs) returns)
+    (tie.spec (λ c. search needs) (λ c κs. search needs) (λ c κs. search needs) (λ c κs. search needs)
+    (λ c κs. search needs) copy-in-requires (λ c. search needs) (λ c κs. search needs) copy-in-requires-2
+    (λ c. search needs) (λ c κs. search needs) (λ c. search needs) (λ c. search needs) (λ c. search needs)
+    copy-in-requires-3 (λ c. search needs) returns)
