@@ -1,4 +1,4 @@
--- A header's bytes read back: every field of a header whose numbers fit.
+-- A header's bytes: there are four, and every field of a header whose numbers fit reads back.
 -- Assumes nothing.
 use mathlib.Core.Path.{_≡_, refl, ap, _∙_}
 use mathlib.Core.Bool.{Bool, true, false}
@@ -6,6 +6,7 @@ use mathlib.Core.List.{List, _++_}
 use Prim.Native.Nat.{ℕ, _+_, _*_, _/_, _%_, _≤_, _<_}
 use native.Mathlib.Omega.{arith}
 use lib.Dec.{lit≤, eqb}
+use lib.ListN.{length}
 use Rattle.mctp.specs.declared.packet.Header.{Header}
 use Rattle.mctp.specs.Key.{bit, flagsFor, headerBytes, keyOf, headerOf}
 
@@ -16,6 +17,10 @@ bit-high false = lit≤ tt
 bit-back : (b : Bool) → eqb (bit b) 1 ≡ b
 bit-back true = refl
 bit-back false = refl
+
+pub header-length : (h : Header) → length (headerBytes h) ≡ 4
+unfolding headerBytes
+header-length h = refl
 
 -- the header's numbers fit their fields
 pub record Fits (h : Header) : Type 0 where

@@ -1,0 +1,28 @@
+-- What the sender's answers say: the number, and the value that goes with it.
+-- Assumes nothing.
+use Prim.Native.Nat.{ℕ}
+use Rattle.mctp.specs.Refusals.{numberOf}
+use Rattle.sender.specs.declared.answer.Counted.{Counted}
+use Rattle.sender.specs.declared.answer.Counted.the-variants as counted
+use Rattle.sender.specs.declared.answer.Cut.{Cut}
+use Rattle.sender.specs.declared.answer.Cut.the-variants as cut
+
+-- the refusal number, 0 where counted
+abbrev pub numberCounted : Counted → ℕ
+numberCounted (counted.Packets packets) = 0
+numberCounted (counted.Refused why) = numberOf why
+
+-- the number of packets, 0 where refused
+abbrev pub packetsCounted : Counted → ℕ
+packetsCounted (counted.Packets packets) = packets
+packetsCounted (counted.Refused why) = 0
+
+-- the refusal number, 0 where cut
+abbrev pub numberCut : Cut → ℕ
+numberCut (cut.Packet size) = 0
+numberCut (cut.Refused why) = numberOf why
+
+-- the packet's size, 0 where refused
+abbrev pub sizeCut : Cut → ℕ
+sizeCut (cut.Packet size) = size
+sizeCut (cut.Refused why) = 0

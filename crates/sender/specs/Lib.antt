@@ -1,0 +1,4 @@
+pub mod Cutting
+pub mod Whole
+pub mod Answers
+pub mod Sending
