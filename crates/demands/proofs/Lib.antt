@@ -6,6 +6,8 @@ pub mod CutRings
 pub mod Turns
 pub mod Resets
 pub mod ResetExamples
+pub mod Fed
+pub mod Ways
 pub mod Demands
 pub mod Calls
 pub mod Checked

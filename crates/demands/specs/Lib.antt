@@ -1,2 +1,4 @@
 pub mod Presenting
 pub mod Turns
+pub mod Sending
+pub mod Ways

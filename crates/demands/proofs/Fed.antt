@@ -1,0 +1,345 @@
+-- A message that is cut into packets and fed in order to a receiver just set up is given back, whole and alone.
+-- Assumes nothing.
+use mathlib.Core.Path.{_≡_, refl, ap, sym, transport, _∙_}
+use mathlib.Core.Bool.{Bool, true, false}
+use mathlib.Core.List.{List, [], _∷_, _++_}
+use Prim.Native.Nat.{ℕ, zero, suc, _+_, _*_, _%_, _≤_, _<_}
+use native.Mathlib.Nat.{zero-add, zero-mul, one-mul}
+use native.Mathlib.Omega.{arith}
+use borrow.Author.Tests.{eqb-false, eq-eqb, ne-eqb, le-leb}
+use lib.Dec.{lit<, eqb, leb}
+use lib.ListN.{length, take, length-append, length-take}
+use lib.Seq.{set-set}
+use Rattle.octets.specs.Bytes.{laid}
+use Rattle.octets.specs.Checks.{Hold}
+use Rattle.octets.proofs.Choice.{pick-elim, within-bounds, within-holds}
+use Rattle.octets.proofs.Laid.{laid-append}
+use Rattle.octets.proofs.Parts.{part-grown}
+use Rattle.mctp.specs.Packet.{bodyRight, versionOf, bodyOf, endOf, sequenceOf}
+use Rattle.mctp.specs.Eid.{endpointEid}
+use Rattle.mctp.specs.Key.{keyOf}
+use Rattle.slots.specs.declared.state.Setup.{Setup}
+use Rattle.slots.specs.declared.state.Slot.{Slot}
+use Rattle.slots.specs.declared.state.Receiver.{Receiver}
+use Rattle.slots.specs.declared.state.SlotState.{SlotState}
+use Rattle.slots.specs.declared.state.SlotState.the-variants.{Free, Gathering}
+use Rattle.slots.specs.Setup.{rightSetup, oursOf}
+use Rattle.slots.specs.Slots.{firstOf, slotOf, lowestFree}
+use Rattle.slots.specs.State.{rightState}
+use Rattle.slots.specs.Changes.{fresh, withState}
+use Rattle.slots.proofs.Changes.{fresh-right}
+use Rattle.decision.specs.Checks.{packetOrder, sourceOrder}
+use Rattle.decision.specs.Rules.{unitRight}
+use Rattle.receiver.specs.Step.{Said, held, done, Left, stepOf}
+use Rattle.messages.specs.Run.{rules, messagesOf, Ran, ofStep, joined, run, runPackets}
+use Rattle.messages.specs.Message.{Starts, Follows, slotFor}
+use Rattle.messages.proofs.Gathering.{Gathers, middle-step, middle-gathers, end-step}
+use Rattle.messages.proofs.Gathering.{start-held, start-done, start-gathers}
+use Rattle.sender.specs.declared.heading.Heading.{Heading}
+use Rattle.sender.specs.Cutting.{packetsIn, packetBody, packetAt, headingRight, messageRight}
+use Rattle.sender.specs.Whole.{along, allPackets}
+use Rattle.demands.specs.Sending.{replyTo, GivesMessage}
+use Rattle.sender.proofs.Cuts.{inside, counted}
+use Rattle.sender.proofs.Packets.{some-room, taken-next, body-full, body-sizes, taken-all, right-numbers}
+use Rattle.sender.proofs.Packets.{packet-body, packet-length, packet-key, packet-start, packet-end, packet-sequence}
+use Rattle.sender.proofs.Packets.{packet-version, packet-destination, packet-source}
+
+-- every packet that is cut is one that the message rules take: its size, version, destination and source are right for
+-- a receiver that the destination is for, with the same largest body or a larger one
+pub packet-checked : (most most′ : ℕ) (s : Setup) (heading : Heading) (message : List ℕ) (k : ℕ)
+    → bodyRight most ≡ true
+    → most ≤ most′
+    → oursOf s (heading .key .destination .0) ≡ true
+    → headingRight heading ≡ true
+    → k < packetsIn most (length message)
+    → Hold (packetOrder most′ s (packetAt most heading message k) ++ sourceOrder (packetAt most heading message k))
+packet-checked most most′ s heading message k right larger ours good h =
+    let p = packetAt most heading message k in
+    let sizes = body-sizes most message k (some-room most right) h in
+    let long = packet-length most heading message k in
+    let version = eq-eqb (versionOf p) 1 (packet-version most heading message k good) in
+    let destination = ap (oursOf s) (packet-destination most heading message k good) ∙ ours in
+    let source = ap endpointEid (packet-source most heading message k good) ∙ right-numbers heading good .0 in
+    (within-holds 5 (4 + most′) (length p) (omega arith) (omega arith), (version, (destination, (source, tt))))
+
+-- slot 0 set, and then free
+freed-anew : (r : Receiver) (x : SlotState) → withState (withState r 0 x) 0 Free ≡ withState r 0 Free
+freed-anew r x = ap (λ (l : List Slot). record { setup = r .setup; slots = l }) (set-set (r .slots) 0 _ _)
+
+-- a message laid into slot 0 is read from there
+read-back : (m b : List ℕ) → length b ≤ length m → messagesOf (done 0 (length b) false) (laid m 0 b) ≡ b ∷ []
+read-back m b h =
+    ap (λ (s : List ℕ). s ∷ [])
+    (ap (λ (n : ℕ). take n (laid m 0 b)) (sym (zero-add (length b))) ∙ part-grown m 0 0 b (omega arith))
+
+-- what n packets from packet k on leave, the last of them among them
+record Gives (most : ℕ) (s : Setup) (m message : List ℕ) (k n : ℕ) (ran : Ran) : Type 0 where
+  answers : ran .answers ≡ along (replyTo most (length message)) k n
+  messages : ran .messages ≡ message ∷ []
+  receiver : ran .receiver ≡ fresh s
+  memory : ran .memory ≡ laid m 0 message
+
+-- a call that leaves this much, on packet k
+module _ (most : ℕ) (s : Setup) (m message : List ℕ) (k : ℕ) (l : Left) where
+  -- it holds the packet: the rest gives the message
+  gives-more : (n : ℕ) (rest : Ran) → k + 1 < packetsIn most (length message)
+      → l .said ≡ held 0 ((k + 1) * most) false
+      → Gives most s m message (suc k) n rest
+      → Gives most s m message k (suc n) (joined (ofStep l) rest)
+  unfolding along
+  gives-more n rest h said G =
+      let expected : rules (held 0 ((k + 1) * most) false) ≡ replyTo most (length message) k =
+      rw (ne-eqb (k + 1) (packetsIn most (length message)) (λ e. omega arith)) in
+      let reply = ap rules said ∙ expected in
+      let later = G .answers in
+      record {
+        answers = λ j. reply j ∷ later j;
+        messages = ap (λ (x : Said). messagesOf x (l .memory) ++ rest .messages) said ∙ G .messages;
+        receiver = G .receiver;
+        memory = G .memory;
+      }
+
+  -- it is done with the last: nothing is left to come
+  gives-last : length message ≤ length m → k + 1 ≡ packetsIn most (length message)
+      → l ≡ record { said = done 0 (length message) false; receiver = fresh s; memory = laid m 0 message }
+      → Gives most s m message k 1
+      (joined (ofStep l) (record { answers = []; messages = []; receiver = l .receiver; memory = l .memory }))
+  unfolding along
+  gives-last fits e left =
+      let expected : rules (done 0 (length message) false) ≡ replyTo most (length message) k =
+      rw (eq-eqb (k + 1) (packetsIn most (length message)) e) in
+      let reply = ap (λ (x : Left). rules (x .said)) left ∙ expected in
+      record {
+        answers = λ j. reply j ∷ [];
+        messages =
+            ap (λ (x : Left). messagesOf (x .said) (x .memory) ++ []) left
+            ∙ ap (λ (b : List (List ℕ)). b ++ []) (read-back m message fits);
+        receiver = ap (λ (x : Left). x .receiver) left;
+        memory = ap (λ (x : Left). x .memory) left;
+      }
+
+module _ (most most′ : ℕ) (s : Setup) (m : List ℕ) (heading : Heading) (message : List ℕ)
+    (right : bodyRight most ≡ true)
+    (larger : most ≤ most′)
+    (state : rightState most′ (fresh s) ≡ true)
+    (ours : oursOf s (heading .key .destination .0) ≡ true)
+    (good : headingRight heading ≡ true)
+    (fits : length message ≤ 1024)
+    (size : length m ≡ 4096) where
+  abbrev count : ℕ
+  count = packetsIn most (length message)
+
+  abbrev packet : ℕ → List ℕ
+  packet k = packetAt most heading message k
+
+  -- the bodies up to packet k
+  abbrev upTo : ℕ → List ℕ
+  upTo k = take (suc k * most) message
+
+  some : 1 ≤ most
+  some = some-room most right
+
+  -- packets 0 to k were given, and none of them is the last: slot 0 gathers, its bytes are their bodies, and nothing
+  -- else differs from what was there
+  record Under (k : ℕ) (r : Receiver) (now : List ℕ) : Type 0 where
+    gathers : Gathers most′ r now (heading .key) 0 ((heading .first + k) % 4) most (upTo k)
+    freed : withState r 0 Free ≡ fresh s
+    memory : now ≡ laid m 0 (upTo k)
+
+  -- the next packet
+  module _ (k : ℕ) (r : Receiver) (now : List ℕ) (U : Under k r now) (h : suc k < count) where
+    abbrev p : List ℕ
+    p = packet (suc k)
+
+    abbrev left : Left
+    left = stepOf most′ r now p
+
+    same-setup : r .setup ≡ s
+    same-setup = ap (λ (x : Receiver). x .setup) (U .freed)
+
+    grown : upTo k ++ bodyOf p ≡ upTo (suc k)
+    grown =
+        ap (λ (b : List ℕ). upTo k ++ b) (packet-body most heading message (suc k))
+        ∙ sym (taken-next most message (suc k))
+
+    total : length (upTo k) + length (bodyOf p) ≡ length (upTo (suc k))
+    total = sym (length-append (upTo k) (bodyOf p)) ∙ ap length grown
+
+    laid-on : laid now (1024 * 0 + length (upTo k)) (bodyOf p) ≡ laid m 0 (upTo (suc k))
+    laid-on =
+        ap (λ (x : List ℕ). laid x (1024 * 0 + length (upTo k)) (bodyOf p)) (U .memory)
+        ∙ sym (laid-append m 0 (upTo k) (bodyOf p))
+        ∙ ap (laid m 0) grown
+
+    unit-right : unitRight (endOf p) most (length (bodyOf p)) ≡ true
+    unit-right =
+        let n = length (packetBody most message (suc k)) in
+        rw (packet-body most heading message (suc k), packet-end most heading message (suc k) good)
+        (pick-elim (λ (t : Bool). t ≡ true) (eqb (suc k + 1) count) (leb n most) (eqb n most)
+        (λ e. le-leb n most (body-sizes most message (suc k) some h .1))
+        (λ e. eq-eqb n most (body-full most message (suc k) some (omega (arith, eqb-false (suc k + 1) count e)))))
+
+    follows : Follows most′ (r .setup) (heading .key) ((heading .first + k) % 4) most (length (upTo k)) p
+    follows =
+        record {
+          checked =
+              packet-checked most most′ (r .setup) heading message (suc k) right larger (rw same-setup ours) good h;
+          not-start = packet-start most heading message (suc k) good ∙ ne-eqb (suc k) 0 (λ e. omega arith);
+          key = packet-key most heading message (suc k) good;
+          sequence = packet-sequence most heading message (suc k) good ∙ omega arith;
+          size = unit-right;
+          room = omega (arith, total, length-take (suc (suc k) * most) message);
+        }
+
+    -- a middle
+    module _ (more : suc k + 1 < count) where
+      goes-on : endOf p ≡ false
+      goes-on = packet-end most heading message (suc k) good ∙ ne-eqb (suc k + 1) count (λ e. omega arith)
+
+      middle-left : left
+          ≡ record {
+            said = held 0 (length (upTo k) + length (bodyOf p)) false;
+            receiver =
+                withState r 0 (Gathering (heading .key) (sequenceOf p) most (length (upTo k) + length (bodyOf p)));
+            memory = laid now (1024 * 0 + length (upTo k)) (bodyOf p);
+          }
+      middle-left = middle-step most′ r now (heading .key) 0 _ most (upTo k) (U .gathers) p follows goes-on
+
+      middle-said : left .said ≡ held 0 ((suc k + 1) * most) false
+      middle-said =
+          let inner = inside most (length message) (suc k + 1) some more in
+          ap (λ (l : Left). l .said) middle-left
+          ∙ ap (λ (n : ℕ). held 0 n false) (omega (arith, total, length-take (suc (suc k) * most) message))
+
+      middle-under : Under (suc k) (left .receiver) (left .memory)
+      middle-under =
+          let sequence = packet-sequence most heading message (suc k) good in
+          record {
+            gathers =
+                transport
+                (λ j. Gathers most′ (left .receiver) (left .memory) (heading .key) 0 (sequence j) most (grown j))
+                (middle-gathers most′ r now (heading .key) 0 _ most (upTo k) (U .gathers) p follows goes-on);
+            freed = ap (λ (l : Left). withState (l .receiver) 0 Free) middle-left ∙ freed-anew r _ ∙ U .freed;
+            memory = ap (λ (l : Left). l .memory) middle-left ∙ laid-on;
+          }
+
+    -- the last
+    last-left : suc k + 1 ≡ count
+        → left ≡ record { said = done 0 (length message) false; receiver = fresh s; memory = laid m 0 message }
+    last-left last =
+        let ends = packet-end most heading message (suc k) good ∙ eq-eqb (suc k + 1) count last in
+        let all = taken-all most message (suc k) some last in
+        let bytes = total ∙ ap length all in
+        let memory = laid-on ∙ ap (laid m 0) all in
+        end-step most′ r now (heading .key) 0 _ most (upTo k) (U .gathers) p follows ends
+        ∙ (λ j. record { said = done 0 (bytes j) false; receiver = U .freed j; memory = memory j })
+
+  -- the packets after packet k, one more than n of them
+  rest-gives : (n k : ℕ) (r : Receiver) (now : List ℕ) → Under k r now → suc k + suc n ≡ count
+      → Gives most s m message (suc k) (suc n) (runPackets most′ r now (along packet (suc k) (suc n)))
+  unfolding run along
+  rest-gives zero k r now U e =
+      gives-last most s m message (suc k) (stepOf most′ r now (packet (suc k))) (omega arith) (omega arith)
+      (last-left k r now U (omega arith) (omega arith))
+  rest-gives (suc n) k r now U e =
+      let l = stepOf most′ r now (packet (suc k)) in
+      let h : suc k < count = omega arith in
+      let more : suc k + 1 < count = omega arith in
+      gives-more most s m message (suc k) l (suc n) _ more (middle-said k r now U h more)
+      (rest-gives n (suc k) (l .receiver) (l .memory) (middle-under k r now U h more) (omega arith))
+
+  -- the first packet, which goes to slot 0
+  module _ (h : 0 < count) where
+    abbrev begun : Left
+    begun = stepOf most′ (fresh s) m (packet 0)
+
+    starts : Starts most′ s (packet 0)
+    starts =
+        record {
+          checked = packet-checked most most′ s heading message 0 right larger ours good h;
+          start = packet-start most heading message 0 good;
+        }
+
+    first-body : bodyOf (packet 0) ≡ upTo 0
+    first-body =
+        packet-body most heading message 0
+        ∙ ap (λ (n : ℕ). take n message ++ packetBody most message 0) (sym (zero-mul most))
+        ∙ sym (taken-next most message 0)
+
+    -- where more follow
+    module _ (more : 0 + 1 < count) where
+      first-size : length (bodyOf (packet 0)) ≡ most
+      first-size = ap length (packet-body most heading message 0) ∙ body-full most message 0 some more
+
+      first-goes-on : endOf (packet 0) ≡ false
+      first-goes-on = packet-end most heading message 0 good ∙ ne-eqb (0 + 1) count (λ e. omega arith)
+
+      first-left : begun
+          ≡ record {
+            said = held 0 (length (bodyOf (packet 0))) false;
+            receiver =
+                withState (fresh s) 0
+                (Gathering (keyOf (packet 0)) (sequenceOf (packet 0)) (length (bodyOf (packet 0)))
+                (length (bodyOf (packet 0))));
+            memory = laid m 0 (bodyOf (packet 0));
+          }
+      unfolding slotFor slotOf lowestFree firstOf
+      first-left = start-held most′ (fresh s) m (packet 0) state size starts (lit< tt) first-goes-on
+
+      first-said : begun .said ≡ held 0 ((0 + 1) * most) false
+      first-said =
+          ap (λ (l : Left). l .said) first-left
+          ∙ ap (λ (n : ℕ). held 0 n false) (first-size ∙ sym (one-mul most))
+
+      first-under : Under 0 (begun .receiver) (begun .memory)
+      unfolding slotFor slotOf lowestFree firstOf
+      first-under =
+          let key = packet-key most heading message 0 good in
+          let sequence = packet-sequence most heading message 0 good in
+          record {
+            gathers =
+                transport
+                (λ j. Gathers most′ (begun .receiver) (begun .memory) (key j) 0 (sequence j) (first-size j)
+                (first-body j))
+                (start-gathers most′ (fresh s) m (packet 0) state size starts (lit< tt) first-goes-on);
+            freed = ap (λ (l : Left). withState (l .receiver) 0 Free) first-left;
+            memory = ap (λ (l : Left). l .memory) first-left ∙ ap (laid m 0) first-body;
+          }
+
+    -- where it is the last too
+    alone-left : 0 + 1 ≡ count
+        → begun ≡ record { said = done 0 (length message) false; receiver = fresh s; memory = laid m 0 message }
+    unfolding slotFor slotOf lowestFree firstOf
+    alone-left last =
+        let ends = packet-end most heading message 0 good ∙ eq-eqb (0 + 1) count last in
+        let all = first-body ∙ taken-all most message 0 some last in
+        start-done most′ (fresh s) m (packet 0) state size starts (lit< tt) ends
+        ∙ (λ j. record { said = done 0 (length (all j)) false; receiver = fresh s; memory = laid m 0 (all j) })
+
+    all-give : (n : ℕ) → n ≡ count → Gives most s m message 0 n (runPackets most′ (fresh s) m (along packet 0 n))
+    unfolding run along
+    all-give zero e = absurd (omega arith)
+    all-give (suc zero) e = gives-last most s m message 0 begun (omega arith) e (alone-left e)
+    all-give (suc (suc n)) e =
+        let more : 0 + 1 < count = omega arith in
+        gives-more most s m message 0 begun (suc n) _ more (first-said more)
+        (rest-gives n 0 (begun .receiver) (begun .memory) (first-under more) (omega arith))
+
+-- all packets of a message, fed in order to a receiver just set up that the destination is for: held, held, .., done;
+-- the message and nothing else; every slot free again; and of the memory the front alone changes
+pub fed-in-order : (most most′ : ℕ) (s : Setup) (m : List ℕ) (heading : Heading) (message : List ℕ)
+    → bodyRight most ≡ true
+    → bodyRight most′ ≡ true
+    → most ≤ most′
+    → rightSetup s ≡ true
+    → oursOf s (heading .key .destination .0) ≡ true
+    → headingRight heading ≡ true
+    → messageRight (length message) ≡ true
+    → length m ≡ 4096
+    → GivesMessage most s m message (runPackets most′ (fresh s) m (allPackets most heading message))
+fed-in-order most most′ s m heading message right right′ larger setup ours good sized size =
+    let bounds = within-bounds 1 1024 (length message) sized in
+    let first = counted most (length message) 0 (some-room most right) (rw (zero-mul most) (bounds .0)) in
+    let G = all-give most most′ s m heading message right larger (fresh-right most′ s right′ setup) ours good
+    (bounds .1) size first (packetsIn most (length message)) refl in
+    record { answers = G .answers; messages = G .messages; receiver = G .receiver; memory = G .memory }
