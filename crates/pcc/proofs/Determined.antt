@@ -29,7 +29,7 @@ read-injective (carried.Packet size notify) (carried.Refused why) e s n = absurd
 read-injective (carried.Refused why) (carried.Packet size notify) e s n = absurd (omega (arith, number-positive why))
 read-injective (carried.Refused why) (carried.Refused why') e s n = ap carried.Refused (number-injective why why' e)
 
-written-injective : (v w : Written) → numberWritten v ≡ numberWritten w → v ≡ w
+pub written-injective : (v w : Written) → numberWritten v ≡ numberWritten w → v ≡ w
 written-injective written.Whole written.Whole e = refl
 written-injective written.Whole (written.Refused why) e = absurd (omega (arith, number-positive why))
 written-injective (written.Refused why) written.Whole e = absurd (omega (arith, number-positive why))

@@ -1,3 +1,6 @@
 pub mod Cuts
 pub mod Packets
 pub mod Sendings
+pub mod Determined
+pub mod Literal
+pub mod Order

@@ -29,7 +29,7 @@ carried-injective (carried.Packet x) (carried.Refused why) n s = absurd (omega (
 carried-injective (carried.Refused why) (carried.Packet y) n s = absurd (omega (arith, number-positive why))
 carried-injective (carried.Refused why) (carried.Refused other) n s = ap carried.Refused (number-injective why other n)
 
-written-injective : (a b : Written) → numberWritten a ≡ numberWritten b → sizeWritten a ≡ sizeWritten b → a ≡ b
+pub written-injective : (a b : Written) → numberWritten a ≡ numberWritten b → sizeWritten a ≡ sizeWritten b → a ≡ b
 written-injective (written.Frame m) (written.Frame k) n s = ap written.Frame s
 written-injective (written.Frame m) (written.Refused why) n s = absurd (omega (arith, number-positive why))
 written-injective (written.Refused why) (written.Frame k) n s = absurd (omega (arith, number-positive why))
