@@ -3,6 +3,7 @@
 -- `message`.) A contract that is wrong with its code alone would still leave no choice; here it meets the definition.
 -- Assumes nothing.
 use mathlib.Core.Path.{_≡_}
+use mathlib.Core.List.{_++_}
 use contract.Lifetimes.{Lfts}
 use denote.Ref.{now}
 use lib.ListN.{length}
@@ -13,6 +14,7 @@ use Rattle.smbus.proofs.packet.Reads as smbus-packet
 use Rattle.smbus.proofs.refusal.Reads as smbus-refusal
 use Rattle.smbus.proofs.source.Reads as smbus-source
 use Rattle.smbus.proofs.write.Reads as smbus-write
+use Rattle.smbus.proofs.write_apart.Reads as smbus-write-apart
 use Rattle.pcc.specs.Answers.{numberWritten}
 use Rattle.pcc.specs.Reading as pcc
 use Rattle.pcc.specs.Writing as regions
@@ -20,6 +22,7 @@ use Rattle.pcc.proofs.packet.Reads as pcc-packet
 use Rattle.pcc.proofs.refusal.Reads as pcc-refusal
 use Rattle.pcc.proofs.notify.Reads as pcc-notify
 use Rattle.pcc.proofs.write.Reads as pcc-write
+use Rattle.pcc.proofs.write_apart.Reads as pcc-write-apart
 use Rattle.mmbi.specs.Changes.{changedFlags}
 use Rattle.mmbi.specs.Interface.{stateOf, isTransient, mayWrite}
 use Rattle.mmbi.proofs.changed_flags.Reads as changed-flags
@@ -38,6 +41,17 @@ use Rattle.handshake.proofs.controller.ControllerPhase.of_number.Reads as contr
 use Rattle.ring.specs.Writing as putting
 use Rattle.ring.specs.Answers.{enteredIn}
 use Rattle.ring.proofs.write.Reads as ring-write
+use Rattle.ring.proofs.write_apart.Reads as ring-write-apart
+use Rattle.mctp.specs.Key.{headerBytes}
+use Rattle.mctp.proofs.header_bytes.Reads as header-bytes
+use Rattle.sender.specs.Answers as sender-says
+use Rattle.sender.specs.Cutting.{countRefusal, countOf}
+use Rattle.sender.specs.Sending as sent
+use Rattle.sender.proofs.count.Reads as count
+use Rattle.sender.proofs.to_output.Reads as to-output
+use Rattle.sender.proofs.to_smbus.Reads as to-smbus
+use Rattle.sender.proofs.to_pcc.Reads as to-pcc
+use Rattle.sender.proofs.to_ring.Reads as to-ring
 use Rattle.descriptor.specs.Reading.{describedIn, describedOf}
 use Rattle.descriptor.proofs.read_descriptor.Reads as read-descriptor
 use Rattle.mctp.specs.Refusals.{outcomeNumber}
@@ -74,6 +88,16 @@ pub smbus-write-is : (κs : Lfts 2) (a r e : _) → smbus-write.Post κs a r e
     × (e .0 .now ≡ frames.writtenOf 64 (a .0 .now) (a .1 .0 .now) (a .1 .1 .0) (a .1 .1 .1 .0))
 smbus-write-is κs a r e p = (p .0, p .1 .0, p .1 .1)
 
+-- the same with the largest body first, and the packet in two pieces
+pub smbus-write-apart-is : (κs : Lfts 3) (a r e : _) → smbus-write-apart.Post κs a r e
+    → let packet = a .1 .1 .0 .now ++ a .1 .1 .1 .0 .now in
+    (smbus-says.numberWritten r
+    ≡ frames.writeRefusal (a .0) (length (a .1 .0 .now)) (length packet) (a .1 .1 .1 .1 .0) (a .1 .1 .1 .1 .1 .0))
+    × (smbus-says.sizeWritten r
+    ≡ frames.sizeOf (a .0) (length (a .1 .0 .now)) (length packet) (a .1 .1 .1 .1 .0) (a .1 .1 .1 .1 .1 .0))
+    × (e .1 .0 .now ≡ frames.writtenOf (a .0) (a .1 .0 .now) packet (a .1 .1 .1 .1 .0) (a .1 .1 .1 .1 .1 .0))
+smbus-write-apart-is κs a r e p = (p .0, p .1 .0, p .1 .1)
+
 -- PCC: a region and its id; a region, its id, the notify flag and a packet
 pub pcc-packet-is : (κs : Lfts 1) (a r e : _) → pcc-packet.Post κs a r e → now r ≡ pcc.packetOf 64 (a .0 .now) (a .1 .0)
 pcc-packet-is κs a r e p = p
@@ -89,6 +113,12 @@ pub pcc-write-is : (κs : Lfts 2) (a r e : _) → pcc-write.Post κs a r e
     × (e .0 .now ≡ regions.writtenOf 64 (a .0 .now) (a .1 .0) (a .1 .1 .0) (a .1 .1 .1 .0 .now))
 pcc-write-is κs a r e p = (p .0, p .1)
 
+pub pcc-write-apart-is : (κs : Lfts 3) (a r e : _) → pcc-write-apart.Post κs a r e
+    → let packet = a .1 .1 .1 .1 .0 .now ++ a .1 .1 .1 .1 .1 .0 .now in
+    (numberWritten r ≡ regions.writeRefusal (a .0) (length (a .1 .0 .now)) (a .1 .1 .0) (length packet))
+    × (e .1 .0 .now ≡ regions.writtenOf (a .0) (a .1 .0 .now) (a .1 .1 .0) (a .1 .1 .1 .0) packet)
+pcc-write-apart-is κs a r e p = (p .0, p .1)
+
 -- the ring: its bytes, the configured length, the flags, the pointers, and a packet
 pub ring-write-is : (κs : Lfts 2) (a r e : _) → ring-write.Post κs a r e
     → (enteredIn r ≡ putting.enteredOf 64 (length (a .0 .now)) (a .1 .0) (mayWrite (stateOf (a .1 .1 .0)))
@@ -96,6 +126,61 @@ pub ring-write-is : (κs : Lfts 2) (a r e : _) → ring-write.Post κs a r e
     × (e .0 .now ≡ putting.writtenOf 64 (a .0 .now) (a .1 .0) (mayWrite (stateOf (a .1 .1 .0)))
     (a .1 .1 .1 .0 .read) (a .1 .1 .1 .0 .write) (a .1 .1 .1 .1 .0 .now))
 ring-write-is κs a r e p = (p .0, p .1)
+
+pub ring-write-apart-is : (κs : Lfts 3) (a r e : _) → ring-write-apart.Post κs a r e
+    → let packet = a .1 .1 .1 .1 .1 .0 .now ++ a .1 .1 .1 .1 .1 .1 .0 .now in
+    let running = mayWrite (stateOf (a .1 .1 .1 .0)) in
+    let pointers = a .1 .1 .1 .1 .0 in
+    (enteredIn r
+    ≡ putting.enteredOf (a .0) (length (a .1 .0 .now)) (a .1 .1 .0) running (pointers .read) (pointers .write)
+    (length packet))
+    × (e .1 .0 .now
+    ≡ putting.writtenOf (a .0) (a .1 .0 .now) (a .1 .1 .0) running (pointers .read) (pointers .write) packet)
+ring-write-apart-is κs a r e p = (p .0, p .1)
+
+-- the sender: a header; a message; an output, a message, its heading and k; and what the carrier's writer takes, with
+-- these three in the packet's place
+pub header-bytes-is : (κs : Lfts 0) (a r e : _) → header-bytes.Post κs a r e → r ≡ headerBytes (a .0)
+header-bytes-is κs a r e p = p
+
+pub count-is : (κs : Lfts 1) (a r e : _) → count.Post κs a r e
+    → (sender-says.numberCounted r ≡ countRefusal 64 (length (a .0 .now)))
+    × (sender-says.packetsCounted r ≡ countOf 64 (length (a .0 .now)))
+count-is κs a r e p = (p .0, p .1)
+
+pub to-output-is : (κs : Lfts 2) (a r e : _) → to-output.Post κs a r e
+    → (sender-says.numberCut r
+    ≡ sent.outputRefusal 64 (a .1 .1 .0) (a .1 .0 .now) (a .1 .1 .1 .0) (length (a .0 .now)))
+    × (sender-says.sizeCut r ≡ sent.outputSize 64 (a .1 .1 .0) (a .1 .0 .now) (a .1 .1 .1 .0) (length (a .0 .now)))
+    × (e .0 .now ≡ sent.outputWritten 64 (a .1 .1 .0) (a .1 .0 .now) (a .1 .1 .1 .0) (a .0 .now))
+to-output-is κs a r e p = (p .0, p .1 .0, p .1 .1)
+
+pub to-smbus-is : (κs : Lfts 2) (a r e : _) → to-smbus.Post κs a r e
+    → let destination = a .1 .1 .1 .1 .0 in
+    let source = a .1 .1 .1 .1 .1 .0 in
+    (smbus-says.numberWritten r
+    ≡ sent.smbusRefusal 64 (a .1 .1 .0) (a .1 .0 .now) (a .1 .1 .1 .0) (length (a .0 .now)) destination source)
+    × (smbus-says.sizeWritten r
+    ≡ sent.smbusSize 64 (a .1 .1 .0) (a .1 .0 .now) (a .1 .1 .1 .0) (length (a .0 .now)) destination source)
+    × (e .0 .now ≡ sent.smbusWritten 64 (a .1 .1 .0) (a .1 .0 .now) (a .1 .1 .1 .0) (a .0 .now) destination source)
+to-smbus-is κs a r e p = (p .0, p .1 .0, p .1 .1)
+
+pub to-pcc-is : (κs : Lfts 2) (a r e : _) → to-pcc.Post κs a r e
+    → let message = a .1 .1 .1 .0 .now in
+    let heading = a .1 .1 .1 .1 .0 in
+    let k = a .1 .1 .1 .1 .1 .0 in
+    (numberWritten r ≡ sent.pccRefusal 64 heading message k (length (a .0 .now)) (a .1 .0))
+    × (e .0 .now ≡ sent.pccWritten 64 heading message k (a .0 .now) (a .1 .0) (a .1 .1 .0))
+to-pcc-is κs a r e p = (p .0, p .1)
+
+pub to-ring-is : (κs : Lfts 2) (a r e : _) → to-ring.Post κs a r e
+    → let message = a .1 .1 .1 .1 .0 .now in
+    let heading = a .1 .1 .1 .1 .1 .0 in
+    let k = a .1 .1 .1 .1 .1 .1 .0 in
+    (enteredIn r
+    ≡ sent.ringEntered 64 heading message k (length (a .0 .now)) (a .1 .0) (a .1 .1 .0) (a .1 .1 .1 .0))
+    × (e .0 .now ≡ sent.ringWritten 64 heading message k (a .0 .now) (a .1 .0) (a .1 .1 .0) (a .1 .1 .1 .0))
+to-ring-is κs a r e p = (p .0, p .1)
 
 -- the window, by itself; with a configuration, and then an area, or a word's place with a word or a pointer
 pub read-descriptor-is : (κs : Lfts 1) (a r e : _) → read-descriptor.Post κs a r e

@@ -17,6 +17,7 @@ use Rattle.messages.specs.Run.{run}
 use Rattle.rack.specs.declared.answer.Beside.the-variants.{Source}
 use Rattle.rack.specs.Arrivals.{Brought, bySmbus, packet, brings}
 use Rattle.rack.specs.Answers.{given, arrivedOf}
+use Rattle.sender.proofs.Literal.{of-130}
 use Rattle.demands.specs.Presenting.{arrival}
 use Rattle.demands.proofs.Numbers.{card, empty, Numbers}
 use Rattle.demands.proofs.Arrivals.{smbus-found}
@@ -50,6 +51,7 @@ numbers =
       full = (refl, refl);
       answers = refl;
       message = refl;
+      cut = of-130;
       transient = refl;
       running = refl;
     }

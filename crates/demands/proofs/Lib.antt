@@ -9,6 +9,8 @@ pub mod ResetExamples
 pub mod Fed
 pub mod Ways
 pub mod Demands
+pub mod Sending
+pub mod SendingExamples
 pub mod Calls
 pub mod Checked
 pub mod Steps

@@ -13,6 +13,7 @@ use Rattle.slots.specs.declared.state.Receiver.{Receiver}
 use Rattle.slots.specs.Changes.{fresh}
 use Rattle.receiver.specs.Step.{held, done}
 use Rattle.messages.specs.Run.{rules, runPackets}
+use Rattle.sender.specs.Whole.{allPackets}
 use Rattle.rack.specs.declared.answer.Beside.the-variants.{Source}
 use Rattle.rack.specs.Arrivals.{bySmbus}
 use Rattle.rack.specs.Answers.{given}
@@ -51,6 +52,15 @@ pub record Numbers : Type 0 where
   pub message : runPackets 64 card empty
       (packetWith 0xBD 64 1 ∷ packetWith 0x0D 64 2 ∷ packetWith 0x5D 2 3 ∷ []) .messages
       ≡ (replicate 64 1 ++ replicate 64 2 ++ replicate 2 3) ∷ []
+  -- that message from EID 10 to EID 9, tag owner, tag 5, first sequence 3, cut into packets (document 02, #101): the
+  -- same three
+  pub cut : allPackets 64
+      (record {
+        key = record { destination = record { 0 = 9 }; source = record { 0 = 10 }; owner = true; tag = 5 };
+        first = 3;
+      })
+      (replicate 64 1 ++ replicate 64 2 ++ replicate 2 3)
+      ≡ packetWith 0xBD 64 1 ∷ packetWith 0x0D 64 2 ∷ packetWith 0x5D 2 3 ∷ []
   -- "flag state 0000 is transient; 1010 is normal runtime."
   pub transient : isTransient (stateOf (flagsOf false false false false)) ≡ true
   pub running : stateOf (flagsOf true false true false) ≡ NormalRuntime

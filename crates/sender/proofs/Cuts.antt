@@ -1,19 +1,20 @@
 -- How many packets a message makes, without a division; which is the last; and the orders of the checks.
 -- Assumes nothing.
 use mathlib.Core.Path.{_≡_, refl, ap, sym, _∙_}
-use mathlib.Core.Bool.{false}
+use mathlib.Core.Bool.{true, false}
 use mathlib.Core.List.{List}
 use mathlib.Core.Logic.{by-cases}
 use Prim.Native.Nat.{ℕ, _+_, _-_, _*_, _≤_, _<_}
 use native.Mathlib.Decide.{decLe}
 use native.Mathlib.Nat.{suc-mul, le-mul-of-pos-right, le-div-iff-mul-le}
 use native.Mathlib.Omega.{arith}
-use borrow.Author.Tests.{eq-eqb, ne-eqb, le-leb, lt-leb, le-ltb}
+use borrow.Author.Tests.{eq-eqb, ne-eqb, le-leb, lt-leb, lt-ltb, le-ltb}
 use lib.Dec.{eqb, leb, ltb}
 use Rattle.octets.specs.Checks.{Check}
 use Rattle.octets.proofs.Checks.{FailsAt, Hold, answerAt, first-failing, none-failing, all-hold, tests}
+use Rattle.mctp.specs.Packet.{bodyRight}
 use Rattle.sender.specs.declared.heading.Heading.{Heading}
-use Rattle.sender.specs.Cutting.{packetsIn, cutOrder, cutRefusal}
+use Rattle.sender.specs.Cutting.{packetsIn, headingRight, messageRight, cutOrder, cutRefusal}
 
 module _ (most size k : ℕ) (some : 1 ≤ most) where
   product : (k + 1) * most ≡ k * most + most
@@ -95,3 +96,12 @@ module _ (most : ℕ) (heading : Heading) (size k : ℕ) where
         short = omega (arith, tests, h .1 .1 .0);
         inside-message = inside most size k (omega arith) (omega (arith, tests, h .1 .1 .1 .0));
       }
+
+  -- packet k is there exactly if it is below the number of packets, and is refused with 23 exactly if it isn't
+  pub there-exactly : bodyRight most ≡ true → headingRight heading ≡ true → messageRight size ≡ true
+      → (k < packetsIn most size → cutRefusal most heading size k ≡ 0)
+      × (packetsIn most size ≤ k → cutRefusal most heading size k ≡ 23)
+  there-exactly body numbers sized = (
+    (λ h. none-refused (body, (numbers, (sized, (lt-ltb k (packetsIn most size) h, tt))))),
+    (λ h. refused-at 3 (body, (numbers, (sized, le-ltb k (packetsIn most size) h)))),
+  )

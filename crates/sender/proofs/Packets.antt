@@ -21,8 +21,9 @@ use Rattle.mctp.specs.Key.{headerBytes, keyOf, headerOf}
 use Rattle.mctp.specs.Packet.{bodyRight, versionOf, destinationOf, sourceOf, startOf, endOf, sequenceOf, bodyOf}
 use Rattle.mctp.proofs.Headers.{Fits, header-back}
 use Rattle.sender.specs.declared.heading.Heading.{Heading}
-use Rattle.sender.specs.Cutting.{packetsIn, packetHeader, packetBody, packetAt, headingRight}
-use Rattle.sender.specs.Whole.{along, allBodies}
+use Rattle.sender.specs.Cutting.{packetsIn, packetHeader, packetBody, packetAt, headingRight, messageRight}
+use Rattle.sender.specs.Cutting.{countRefusal, countOf}
+use Rattle.sender.specs.Whole.{along, allPackets, allBodies}
 use Rattle.sender.proofs.Cuts.{inside, counted}
 
 -- a body has room for a byte
@@ -65,6 +66,18 @@ bodies-joined most message right =
     bodies-from most message 0 count
     ∙ ap (λ (k : ℕ). take (count * most) (drop k message)) (zero-mul most)
     ∙ take-all (count * most) message (enough most (length message) (some-room most right))
+
+-- as many as are counted
+along-length : {A : Type 0} (f : ℕ → A) (i n : ℕ) → length (along f i n) ≡ n
+unfolding along
+along-length f i zero = refl
+along-length f i (suc n) = ap suc (along-length f (suc i) n)
+
+pub all-counted : (most : ℕ) (heading : Heading) (message : List ℕ) → bodyRight most ≡ true
+    → messageRight (length message) ≡ true → countOf most (length message) ≡ length (allPackets most heading message)
+unfolding countOf countRefusal
+all-counted most heading message body sized =
+    rw (body, sized) (sym (along-length (packetAt most heading message) 0 (packetsIn most (length message))))
 
 module _ (most : ℕ) (message : List ℕ) (k : ℕ) (some : 1 ≤ most) where
   -- a body that is not the last is as large as may be

@@ -10,20 +10,23 @@ use borrow.Author.Tests.{ne-eqb, le-leb, lt-leb}
 use lib.Dec.{eqb}
 use lib.ListN.{length, length-append}
 use Rattle.octets.specs.Bytes.{laid, fronted}
+use Rattle.octets.proofs.Choice.{either-way}
 use Rattle.octets.proofs.Laid.{laid-append, laid-front}
 use Rattle.mctp.specs.declared.refusal.Refusal.{Refusal}
 use Rattle.mctp.specs.Key.{headerBytes}
 use Rattle.mctp.specs.Refusals.{numberOf}
 use Rattle.mctp.proofs.Refusals.{number-positive}
 use Rattle.smbus.specs.Writing as frames
+use Rattle.smbus.proofs.Answers.{output-unwritten as frame-unwritten}
 use Rattle.pcc.specs.Writing as regions
+use Rattle.pcc.proofs.Writings.{written-refused}
 use Rattle.mmbi.specs.declared.interface.Flags.{Flags}
 use Rattle.mmbi.specs.declared.pointer.Pointers.{Pointers}
 use Rattle.mmbi.specs.Interface.{stateOf, mayWrite}
 use Rattle.ring.specs.Writing as rings
 use Rattle.sender.specs.declared.heading.Heading.{Heading}
 use Rattle.sender.specs.Cutting.{packetHeader, packetBody, packetAt}
-use Rattle.sender.specs.Sending.{cutNumber, outputRefusal, outputSize, outputWritten, smbusRefusal, smbusSize, smbusWritten}
+use Rattle.sender.specs.Sending.{ifCut, cutNumber, outputRefusal, outputSize, outputWritten, smbusRefusal, smbusSize, smbusWritten}
 use Rattle.sender.specs.Sending.{pccRefusal, pccWritten, ringEntered, ringWritten}
 
 -- a packet's two pieces
@@ -118,3 +121,41 @@ module _ (most : ℕ) (heading : Heading) (message : List ℕ) (k : ℕ) where
         × (ring ≡ ringWritten most heading message k ring configured flags pointers)
     unfolding ringEntered ringWritten
     not-by-ring ring configured flags pointers = rw (not-there, e) (refl, refl)
+
+-- "nothing is written": where the answer is a refusal, be it of cutting or the carrier's own, what was lent stays
+if-refused : (cut own : ℕ) (written lent : List ℕ) → (ifCut cut own cut ≡ 0 → ⊥)
+    → ((own ≡ 0 → ⊥) → written ≡ lent) → ifCut cut written lent ≡ lent
+if-refused cut own written lent refused rest =
+    either-way (eqb cut 0) (λ t. rw t (rest (λ (e : own ≡ 0). refused (rw t e)))) (λ t. rw t)
+
+module _ (most : ℕ) (heading : Heading) (message : List ℕ) (k : ℕ) where
+  pub output-unwritten : (out : List ℕ) → (outputRefusal most heading message k (length out) ≡ 0 → ⊥)
+      → outputWritten most heading message k out ≡ out
+  unfolding outputWritten
+  output-unwritten out refused = rw (ne-eqb (outputRefusal most heading message k (length out)) 0 refused)
+
+  pub smbus-unwritten : (out : List ℕ) (destination source : ℕ)
+      → (smbusRefusal most heading message k (length out) destination source ≡ 0 → ⊥)
+      → smbusWritten most heading message k out destination source ≡ out
+  unfolding smbusRefusal smbusWritten
+  smbus-unwritten out destination source refused =
+      if-refused (cutNumber most heading message k) _ _ out refused
+      (frame-unwritten most out (packetAt most heading message k) destination source)
+
+  pub pcc-unwritten : (region : List ℕ) (id : ℕ) (notify : Bool)
+      → (pccRefusal most heading message k (length region) id ≡ 0 → ⊥)
+      → pccWritten most heading message k region id notify ≡ region
+  unfolding pccRefusal pccWritten
+  pcc-unwritten region id notify refused =
+      if-refused (cutNumber most heading message k) _ _ region refused
+      (λ n. written-refused region (packetAt most heading message k) id notify most (omega arith))
+
+  pub ring-unwritten : (ring : List ℕ) (configured : ℕ) (flags : Flags) (pointers : Pointers) (n : ℕ)
+      → ringEntered most heading message k (length ring) configured flags pointers ≡ rings.refused n
+      → ringWritten most heading message k ring configured flags pointers ≡ ring
+  unfolding ringEntered ringWritten
+  ring-unwritten ring configured flags pointers n e =
+      either-way (eqb (cutNumber most heading message k) 0)
+      (λ t. rw t (ap (λ (a : rings.Entered). rings.ringAfter a ring (pointers .write) (packetAt most heading message k))
+      (rw t at e)))
+      (λ t. rw t)

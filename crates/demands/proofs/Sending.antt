@@ -1,0 +1,116 @@
+-- Cutting a message into packets, sentence by sentence (document 02, #101), each a theorem over the definitions that the
+-- public contracts cite. 64 is the base's largest body.
+-- Assumes nothing.
+use mathlib.Core.Path.{_≡_, refl}
+use mathlib.Core.Bool.{Bool, true}
+use mathlib.Core.List.{List, _++_, flatten}
+use Prim.Native.Nat.{ℕ, _≤_, _<_}
+use native.Mathlib.Omega.{arith}
+use lib.ListN.{length}
+use Rattle.octets.specs.Checks.{Hold}
+use Rattle.mctp.specs.Packet.{bodyRight}
+use Rattle.mmbi.specs.declared.interface.Flags.{Flags}
+use Rattle.mmbi.specs.declared.pointer.Pointers.{Pointers}
+use Rattle.ring.specs.Writing.{refused}
+use Rattle.slots.specs.declared.state.Setup.{Setup}
+use Rattle.slots.specs.Changes.{fresh}
+use Rattle.slots.specs.Setup.{rightSetup, oursOf}
+use Rattle.decision.specs.Checks.{packetOrder, sourceOrder}
+use Rattle.messages.specs.Run.{runPackets}
+use Rattle.sender.specs.declared.heading.Heading.{Heading}
+use Rattle.sender.specs.Cutting.{packetsIn, packetAt, headingRight, messageRight, countOf, cutRefusal}
+use Rattle.sender.specs.Sending.{outputRefusal, outputWritten, smbusRefusal, smbusWritten, pccRefusal, pccWritten}
+use Rattle.sender.specs.Sending.{ringEntered, ringWritten}
+use Rattle.sender.specs.Whole.{allPackets, allBodies}
+use Rattle.sender.proofs.Cuts.{there-exactly}
+use Rattle.sender.proofs.Packets.{all-counted, bodies-joined}
+use Rattle.sender.proofs.Sendings.{output-unwritten, smbus-unwritten, pcc-unwritten, ring-unwritten}
+use Rattle.demands.specs.Presenting.{present}
+use Rattle.demands.specs.Sending.{GivesMessage}
+use Rattle.demands.specs.Ways.{Way, Goes, arrivals, wayRight}
+use Rattle.demands.proofs.Demands.{the-path-does-not-matter}
+use Rattle.demands.proofs.Fed.{packet-checked, fed-in-order}
+use Rattle.demands.proofs.Ways.{sent-packets, right-way-goes}
+
+-- "give packet k of it, k from 0": there is one exactly if k is below their number; "23 for k past the end" exactly there
+pub a-packet-is-there-or-past-the-end : (heading : Heading) (message : List ℕ) (k : ℕ)
+    → headingRight heading ≡ true → messageRight (length message) ≡ true
+    → (k < packetsIn 64 (length message) → cutRefusal 64 heading (length message) k ≡ 0)
+    × (packetsIn 64 (length message) ≤ k → cutRefusal 64 heading (length message) k ≡ 23)
+a-packet-is-there-or-past-the-end heading message k = there-exactly 64 heading (length message) k refl
+
+-- "their number is its length divided by 64, rounded up": what the counting call tells is how many there are
+pub their-number-is-told : (heading : Heading) (message : List ℕ) → messageRight (length message) ≡ true
+    → countOf 64 (length message) ≡ length (allPackets 64 heading message)
+their-number-is-told heading message = all-counted 64 heading message refl
+
+-- "bodies of 64, the last shorter or equal": joined, they are the message
+pub their-bodies-are-the-message : (message : List ℕ) → flatten (allBodies 64 message) ≡ message
+their-bodies-are-the-message message = bodies-joined 64 message refl
+
+-- every packet is one that the message rules take: size, version, destination and source
+pub the-rules-take-every-packet : (s : Setup) (heading : Heading) (message : List ℕ) (k : ℕ)
+    → oursOf s (heading .key .destination .0) ≡ true → headingRight heading ≡ true → k < packetsIn 64 (length message)
+    → Hold (packetOrder 64 s (packetAt 64 heading message k) ++ sourceOrder (packetAt 64 heading message k))
+the-rules-take-every-packet s heading message k =
+    packet-checked 64 64 s heading message k refl (omega arith)
+
+-- "Fed in order to a fresh receiver which the destination suits, they give that message": held, held, .., done in slot
+-- 0; that message and nothing else; every slot free at the end; from any memory, of which the front alone changes
+pub they-give-that-message : (s : Setup) (m : List ℕ) (heading : Heading) (message : List ℕ)
+    → rightSetup s ≡ true → oursOf s (heading .key .destination .0) ≡ true
+    → headingRight heading ≡ true → messageRight (length message) ≡ true → length m ≡ 4096
+    → GivesMessage 64 s m message (runPackets 64 (fresh s) m (allPackets 64 heading message))
+they-give-that-message s m heading message = fed-in-order 64 64 s m heading message refl refl (omega arith)
+
+-- so they do for every largest body, at a receiver whose own is as large or larger
+pub they-give-it-to-a-larger-receiver : (most most′ : ℕ) (s : Setup) (m : List ℕ) (heading : Heading)
+    (message : List ℕ)
+    → bodyRight most ≡ true → bodyRight most′ ≡ true → most ≤ most′
+    → rightSetup s ≡ true → oursOf s (heading .key .destination .0) ≡ true
+    → headingRight heading ≡ true → messageRight (length message) ≡ true → length m ≡ 4096
+    → GivesMessage most s m message (runPackets most′ (fresh s) m (allPackets most heading message))
+they-give-it-to-a-larger-receiver = fed-in-order
+
+-- "Packet k also goes straight onto any of the three paths.": each packet on a path of its own, none refused, and what
+-- was written presented as arrivals
+pub they-give-it-on-any-mix-of-paths : (s : Setup) (m : List ℕ) (heading : Heading) (message : List ℕ) (ways : ℕ → Way)
+    → rightSetup s ≡ true → oursOf s (heading .key .destination .0) ≡ true
+    → headingRight heading ≡ true → messageRight (length message) ≡ true → length m ≡ 4096
+    → ((k : ℕ) → k < packetsIn 64 (length message) → Goes 64 heading message (ways k) k)
+    → GivesMessage 64 s m message (present 64 (fresh s) m (arrivals 64 heading message ways))
+they-give-it-on-any-mix-of-paths s m heading message ways right ours numbers sized memory goes =
+    rw (the-path-does-not-matter s m (arrivals 64 heading message ways), sent-packets 64 heading message ways goes)
+    (they-give-that-message s m heading message right ours numbers sized memory)
+
+-- and none is refused where the carriers' numbers are right: addresses, id, outputs, and a ring that is empty at any
+-- right pointer, in normal runtime
+pub right-numbers-are-never-refused : (heading : Heading) (message : List ℕ) (way : Way) (k : ℕ)
+    → headingRight heading ≡ true → messageRight (length message) ≡ true → k < packetsIn 64 (length message)
+    → wayRight way ≡ true → Goes 64 heading message way k
+right-numbers-are-never-refused heading message way k numbers sized h right =
+    right-way-goes heading message way k right
+    (a-packet-is-there-or-past-the-end heading message k numbers sized .0 h)
+
+-- "nothing is written": where an answer is a refusal, every lent byte stays
+pub nothing-is-written-to-an-output : (heading : Heading) (message : List ℕ) (k : ℕ) (out : List ℕ)
+    → (outputRefusal 64 heading message k (length out) ≡ 0 → ⊥) → outputWritten 64 heading message k out ≡ out
+nothing-is-written-to-an-output = output-unwritten 64
+
+pub nothing-is-written-as-a-frame : (heading : Heading) (message : List ℕ) (k : ℕ) (out : List ℕ)
+    (destination source : ℕ)
+    → (smbusRefusal 64 heading message k (length out) destination source ≡ 0 → ⊥)
+    → smbusWritten 64 heading message k out destination source ≡ out
+nothing-is-written-as-a-frame = smbus-unwritten 64
+
+pub nothing-is-written-to-a-region : (heading : Heading) (message : List ℕ) (k : ℕ) (region : List ℕ) (id : ℕ)
+    (notify : Bool)
+    → (pccRefusal 64 heading message k (length region) id ≡ 0 → ⊥)
+    → pccWritten 64 heading message k region id notify ≡ region
+nothing-is-written-to-a-region = pcc-unwritten 64
+
+pub nothing-is-written-to-a-ring : (heading : Heading) (message : List ℕ) (k : ℕ) (ring : List ℕ) (configured : ℕ)
+    (flags : Flags) (pointers : Pointers) (n : ℕ)
+    → ringEntered 64 heading message k (length ring) configured flags pointers ≡ refused n
+    → ringWritten 64 heading message k ring configured flags pointers ≡ ring
+nothing-is-written-to-a-ring = ring-unwritten 64

@@ -1,0 +1,109 @@
+-- No premise is empty: each theorem of Sending that has one, used on an input that meets all of its premises at once.
+-- Assumes nothing.
+use mathlib.Core.Path.{_≡_, refl}
+use mathlib.Core.Bool.{true, false}
+use mathlib.Core.List.{[], _∷_, _++_}
+use Prim.Native.Nat.{ℕ, zero, suc}
+use native.Mathlib.Omega.{arith}
+use lib.Dec.{lit≤, lit<}
+use lib.ListN.{length, replicate}
+use Rattle.octets.specs.Checks.{Hold}
+use Rattle.mctp.specs.Key.{headerBytes}
+use Rattle.smbus.specs.Writing as frames
+use Rattle.pcc.specs.Writing as regions
+use Rattle.mmbi.specs.Interface.{normalRuntime, stateOf}
+use Rattle.ring.specs.Writing as rings
+use Rattle.slots.specs.declared.state.Setup.{Setup}
+use Rattle.slots.specs.Changes.{fresh}
+use Rattle.decision.specs.Checks.{packetOrder, sourceOrder}
+use Rattle.receiver.specs.Step.{held, done}
+use Rattle.messages.specs.Run.{rules, runPackets}
+use Rattle.sender.specs.Cutting.{packetAt, countOf, cutRefusal}
+use Rattle.sender.specs.Sending.{outputRefusal, outputWritten, smbusRefusal, smbusWritten, pccRefusal, pccWritten}
+use Rattle.sender.specs.Sending.{ringEntered, ringWritten}
+use Rattle.sender.specs.Whole.{along, allPackets}
+use Rattle.sender.proofs.Literal.{answering, message130}
+use Rattle.demands.specs.Presenting.{present}
+use Rattle.demands.specs.Sending.{GivesMessage}
+use Rattle.demands.specs.Ways.{Way, smbusWay, pccWay, ringWay, emptyPointers, arrivals, wayRight}
+use Rattle.demands.proofs.Numbers.{empty}
+use Rattle.demands.proofs.Sending as sending
+
+-- the card at EID 9
+abbrev nine : Setup
+nine = record { own = record { 0 = 9 } }
+
+-- the last packet, and the first past the end
+pub a-packet-is-there-or-past-the-end : (cutRefusal 64 answering 130 2 ≡ 0) × (cutRefusal 64 answering 130 3 ≡ 23)
+a-packet-is-there-or-past-the-end = (
+  sending.a-packet-is-there-or-past-the-end answering message130 2 refl refl .0 (lit< tt),
+  sending.a-packet-is-there-or-past-the-end answering message130 3 refl refl .1 (lit≤ tt),
+)
+
+pub their-number-is-told : countOf 64 130 ≡ length (allPackets 64 answering message130)
+their-number-is-told = sending.their-number-is-told answering message130 refl
+
+pub the-rules-take-every-packet : Hold (packetOrder 64 nine (packetAt 64 answering message130 2)
+    ++ sourceOrder (packetAt 64 answering message130 2))
+the-rules-take-every-packet = sending.the-rules-take-every-packet nine answering message130 2 refl refl (lit< tt)
+
+-- 130 bytes: held, held, done
+pub they-give-that-message : GivesMessage 64 nine empty message130
+    (runPackets 64 (fresh nine) empty (allPackets 64 answering message130))
+they-give-that-message = sending.they-give-that-message nine empty answering message130 refl refl refl refl refl
+
+pub three-answers : runPackets 64 (fresh nine) empty (allPackets 64 answering message130) .answers
+    ≡ rules (held 0 64 false) ∷ rules (held 0 128 false) ∷ rules (done 0 130 false) ∷ []
+unfolding along
+three-answers = they-give-that-message .answers
+
+-- cut by 64, and by 246, for a receiver that takes 246
+pub they-give-it-to-a-larger-receiver :
+    GivesMessage 64 nine empty message130 (runPackets 246 (fresh nine) empty (allPackets 64 answering message130))
+    × GivesMessage 246 nine empty message130 (runPackets 246 (fresh nine) empty (allPackets 246 answering message130))
+they-give-it-to-a-larger-receiver = (
+  sending.they-give-it-to-a-larger-receiver 64 246 nine empty answering message130 refl refl (lit≤ tt) refl refl refl
+      refl refl,
+  sending.they-give-it-to-a-larger-receiver 246 246 nine empty answering message130 refl refl (lit≤ tt) refl refl refl
+      refl refl,
+)
+
+-- a frame, a region, and then a ring that is empty at its last pointer, so that the packet runs over the ring's end
+abbrev ways : ℕ → Way
+ways zero = smbusWay (replicate 73 0) 32 17
+ways (suc zero) = pccWay (replicate 84 0) 3 true
+ways (suc (suc k)) = ringWay (replicate 128 0) 124 (replicate 68 0)
+
+ways-right : (k : ℕ) → wayRight (ways k) ≡ true
+ways-right zero = refl
+ways-right (suc zero) = refl
+ways-right (suc (suc k)) = refl
+
+pub they-give-it-on-any-mix-of-paths : GivesMessage 64 nine empty message130
+    (present 64 (fresh nine) empty (arrivals 64 answering message130 ways))
+they-give-it-on-any-mix-of-paths =
+    sending.they-give-it-on-any-mix-of-paths nine empty answering message130 ways refl refl refl refl refl
+    (λ k h. sending.right-numbers-are-never-refused answering message130 (ways k) k refl refl h (ways-right k))
+
+-- nothing is written: no room, an address that is none, an id that is none, a pointer that is none
+pub nothing-is-written-to-an-output : outputWritten 64 answering message130 0 (replicate 67 5) ≡ replicate 67 5
+unfolding outputRefusal cutRefusal packetAt headerBytes
+nothing-is-written-to-an-output =
+    sending.nothing-is-written-to-an-output answering message130 0 (replicate 67 5) (λ e. omega arith)
+
+pub nothing-is-written-as-a-frame : smbusWritten 64 answering message130 0 (replicate 73 5) 128 17 ≡ replicate 73 5
+unfolding smbusRefusal cutRefusal frames.writeRefusal
+nothing-is-written-as-a-frame =
+    sending.nothing-is-written-as-a-frame answering message130 0 (replicate 73 5) 128 17 (λ e. omega arith)
+
+pub nothing-is-written-to-a-region : pccWritten 64 answering message130 0 (replicate 84 5) 256 true ≡ replicate 84 5
+unfolding pccRefusal cutRefusal regions.writeRefusal
+nothing-is-written-to-a-region =
+    sending.nothing-is-written-to-a-region answering message130 0 (replicate 84 5) 256 true (λ e. omega arith)
+
+pub nothing-is-written-to-a-ring :
+    ringWritten 64 answering message130 0 (replicate 128 5) 128 normalRuntime (emptyPointers 1) ≡ replicate 128 5
+unfolding ringEntered cutRefusal packetAt headerBytes rings.enteredOf stateOf
+nothing-is-written-to-a-ring =
+    sending.nothing-is-written-to-a-ring answering message130 0 (replicate 128 5) 128 normalRuntime (emptyPointers 1) 12
+    refl
