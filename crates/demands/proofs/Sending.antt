@@ -1,5 +1,5 @@
--- Cutting a message into packets, sentence by sentence (document 02, #101), each a theorem over the definitions that the
--- public contracts cite. 64 is the base's largest body.
+-- Cutting a message into packets, sentence by sentence (document 02, #101), each a theorem over the definitions that
+-- the public contracts cite. 64 is the base's largest body.
 -- Assumes nothing.
 use mathlib.Core.Path.{_≡_, refl}
 use mathlib.Core.Bool.{Bool, true}
@@ -32,7 +32,8 @@ use Rattle.demands.proofs.Demands.{the-path-does-not-matter}
 use Rattle.demands.proofs.Fed.{packet-checked, fed-in-order}
 use Rattle.demands.proofs.Ways.{sent-packets, right-way-goes}
 
--- "give packet k of it, k from 0": there is one exactly if k is below their number; "23 for k past the end" exactly there
+-- "give packet k of it, k from 0": there is one exactly if k is below their number; "23 for k past the end" exactly if
+-- it isn't
 pub a-packet-is-there-or-past-the-end : (heading : Heading) (message : List ℕ) (k : ℕ)
     → headingRight heading ≡ true → messageRight (length message) ≡ true
     → (k < packetsIn 64 (length message) → cutRefusal 64 heading (length message) k ≡ 0)

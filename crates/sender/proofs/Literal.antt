@@ -77,7 +77,8 @@ count-borders = (refl, refl, refl)
 abbrev eids : List ℕ
 eids = 0 ∷ 1 ∷ 7 ∷ 8 ∷ 254 ∷ 255 ∷ []
 
-pub ranges : (map (λ (e : ℕ). headingRight (headed e 10 true 5 3)) eids ≡ true ∷ false ∷ false ∷ true ∷ true ∷ true ∷ [])
+pub ranges :
+    (map (λ (e : ℕ). headingRight (headed e 10 true 5 3)) eids ≡ true ∷ false ∷ false ∷ true ∷ true ∷ true ∷ [])
     × (map (λ (e : ℕ). headingRight (headed 9 e true 5 3)) eids ≡ true ∷ false ∷ false ∷ true ∷ true ∷ false ∷ [])
     × (map (λ (tag : ℕ). headingRight (headed 9 10 false tag 0)) (0 ∷ 7 ∷ 8 ∷ []) ≡ true ∷ true ∷ false ∷ [])
     × (map (λ (first : ℕ). headingRight (headed 9 10 true 0 first)) (0 ∷ 3 ∷ 4 ∷ []) ≡ true ∷ true ∷ false ∷ [])

@@ -1,6 +1,6 @@
 -- The order of the refusals on literal numbers: where two neighbouring checks both fail, the earlier one gives the
--- number. "1 for a number out of range, then 3 for the message, then 23 for k past the end, then the carrier's own, or 2
--- for a bare packet's output"
+-- number. "1 for a number out of range, then 3 for the message, then 23 for k past the end, then the carrier's own, or
+-- 2 for a bare packet's output"
 -- Assumes nothing.
 use mathlib.Core.Path.{_≡_, refl}
 use mathlib.Core.Bool.{true}

@@ -9,9 +9,10 @@ use native.Mathlib.Omega.{arith}
 use borrow.Author.Tests.{ne-eqb, le-leb, lt-leb}
 use lib.Dec.{eqb}
 use lib.ListN.{length, length-append}
-use Rattle.octets.specs.Bytes.{laid, fronted}
+use Rattle.octets.specs.Bytes.{part, laid, fronted}
 use Rattle.octets.proofs.Choice.{either-way}
 use Rattle.octets.proofs.Laid.{laid-append, laid-front}
+use Rattle.mctp.specs.declared.packet.Header.{Header}
 use Rattle.mctp.specs.declared.refusal.Refusal.{Refusal}
 use Rattle.mctp.specs.Key.{headerBytes}
 use Rattle.mctp.specs.Refusals.{numberOf}
@@ -24,17 +25,27 @@ use Rattle.mmbi.specs.declared.interface.Flags.{Flags}
 use Rattle.mmbi.specs.declared.pointer.Pointers.{Pointers}
 use Rattle.mmbi.specs.Interface.{stateOf, mayWrite}
 use Rattle.ring.specs.Writing as rings
+use Rattle.sender.specs.declared.answer.Piece.{Piece}
+use Rattle.sender.specs.declared.answer.Piece.the-variants.{There}
 use Rattle.sender.specs.declared.heading.Heading.{Heading}
-use Rattle.sender.specs.Cutting.{packetHeader, packetBody, packetAt}
-use Rattle.sender.specs.Sending.{ifCut, cutNumber, outputRefusal, outputSize, outputWritten, smbusRefusal, smbusSize, smbusWritten}
+use Rattle.sender.specs.Cutting.{packetAt, cutRefusal}
+use Rattle.sender.specs.Answers.{numberIn, bytesIn}
+use Rattle.sender.specs.Sending.{ifCut, cutNumber, outputRefusal, outputSize, outputWritten}
+use Rattle.sender.specs.Sending.{smbusRefusal, smbusSize, smbusWritten}
 use Rattle.sender.specs.Sending.{pccRefusal, pccWritten, ringEntered, ringWritten}
 
--- a packet's two pieces
-pub pieces : (most : ℕ) (heading : Heading) (message : List ℕ) (k : ℕ) (header body : List ℕ)
-    → header ≡ headerBytes (packetHeader most heading (length message) k) → body ≡ packetBody most message k
-    → header ++ body ≡ packetAt most heading message k
-unfolding packetAt
-pieces most heading message k header body h b = λ i. h i ++ b i
+module _ (most : ℕ) (heading : Heading) (message : List ℕ) (k : ℕ) (r : Piece)
+    (number : numberIn r ≡ cutRefusal most heading (length message) k)
+    (bytes : (other : List ℕ) → length other ≡ length message → numberIn r ≡ 0
+    → bytesIn most other r ≡ packetAt most heading other k) where
+  -- a piece that is there: packet k is its header's bytes and its part of the message
+  pub told-there : (header : Header) (from : ℕ) (front body : List ℕ) → r ≡ There header from
+      → front ≡ headerBytes header → body ≡ part message from most
+      → (cutNumber most heading message k ≡ 0) × (front ++ body ≡ packetAt most heading message k)
+  told-there header from front body is f b = (
+    sym number ∙ ap numberIn is,
+    (λ i. f i ++ b i) ∙ sym (ap (bytesIn most message) is) ∙ bytes message refl (ap numberIn is),
+  )
 
 -- laid one behind the other
 pub laid-pieces : (out header body : List ℕ) → length header ≡ 4 → 4 + length body ≤ length out

@@ -1,9 +1,14 @@
 -- What the sender's answers say: the number, and the value that goes with it.
 -- Assumes nothing.
 use Prim.Native.Nat.{ℕ}
+use mathlib.Core.List.{List, [], _++_}
+use Rattle.octets.specs.Bytes.{part}
+use Rattle.mctp.specs.Key.{headerBytes}
 use Rattle.mctp.specs.Refusals.{numberOf}
 use Rattle.sender.specs.declared.answer.Counted.{Counted}
 use Rattle.sender.specs.declared.answer.Counted.the-variants as counted
+use Rattle.sender.specs.declared.answer.Piece.{Piece}
+use Rattle.sender.specs.declared.answer.Piece.the-variants as piece
 use Rattle.sender.specs.declared.answer.Cut.{Cut}
 use Rattle.sender.specs.declared.answer.Cut.the-variants as cut
 
@@ -16,6 +21,16 @@ numberCounted (counted.Refused why) = numberOf why
 abbrev pub packetsCounted : Counted → ℕ
 packetsCounted (counted.Packets packets) = packets
 packetsCounted (counted.Refused why) = 0
+
+-- the refusal number, 0 where the packet is there
+abbrev pub numberIn : Piece → ℕ
+numberIn (piece.There header from) = 0
+numberIn (piece.Refused why) = numberOf why
+
+-- the packet's bytes, its body a part of the message; none where refused
+abbrev pub bytesIn : (most : ℕ) (message : List ℕ) → Piece → List ℕ
+bytesIn most message (piece.There header from) = headerBytes header ++ part message from most
+bytesIn most message (piece.Refused why) = []
 
 -- the refusal number, 0 where cut
 abbrev pub numberCut : Cut → ℕ

@@ -18,8 +18,8 @@ use Rattle.sender.specs.declared.heading.Heading.{Heading}
 abbrev pub packetsIn : (most size : ℕ) → ℕ
 packetsIn most size = (size + (most - 1)) / most
 
--- "sequence rising modulo 4, start on the first and end on the last"; "tag owner, tag" as given. Version 1, "Byte 0: low
--- four bits version, 1" (document 01)
+-- "sequence rising modulo 4, start on the first and end on the last"; "tag owner, tag" as given. Version 1: "Byte 0:
+-- low four bits version, 1." (document 01)
 unfoldable pub packetHeader : (most : ℕ) → Heading → (size k : ℕ) → Header
 packetHeader most heading size k =
     record {

@@ -1,5 +1,6 @@
-// A message cut into packets: how many there are, whether there is a packet k, and its header and body.
+// A message cut into packets: how many there are, and packet k as a header and a place in the message.
 use crate::answer::Counted;
+use crate::answer::Piece;
 use crate::heading::Heading;
 use crate::heading::heading_right;
 use mctp::Header;
@@ -7,12 +8,12 @@ use mctp::LARGEST_BODY;
 use mctp::Outcome;
 use mctp::Refusal;
 ghost use mathlib.Core.Path.{_≡_};
-ghost use Prim.Native.Nat.{_*_, _≤_, _<_};
+ghost use mathlib.Core.List.{List};
+ghost use Prim.Native.Nat.{ℕ, _*_, _≤_, _<_};
 ghost use lib.ListN.{length};
 ghost use Rattle.mctp.specs.Refusals.{outcomeNumber};
-ghost use Rattle.mctp.specs.Key.{headerBytes};
-ghost use Rattle.sender.specs.Cutting.{messageRight, packetHeader, packetBody, countRefusal, countOf, cutRefusal};
-ghost use Rattle.sender.specs.Answers.{numberCounted, packetsCounted};
+ghost use Rattle.sender.specs.Cutting.{messageRight, packetHeader, packetAt, countRefusal, countOf, cutRefusal};
+ghost use Rattle.sender.specs.Answers.{numberCounted, packetsCounted, numberIn, bytesIn};
 
 // How many packets there are of a message.
 pub fn count(message: &[u8]) -> Counted
@@ -41,9 +42,23 @@ fn message_right(size: usize) -> bool
     (1 <= size) & (size <= 1024)
 }
 
-// Whether there is a packet k of a message of this size: all that is refused before the packet goes anywhere. A packet
-// has a byte at least, so k is below 1,024, and k × most can't wrap; nothing is divided.
-pub fn may_cut(most: usize, heading: Heading, size: usize, k: usize) -> Outcome
+// Packet k of a message of this size, or why there is none: all that is refused before the packet goes anywhere.
+pub fn cut(most: usize, heading: Heading, size: usize, k: usize) -> Piece
+    ensures number { λ r. ⌜ numberIn r ≡ cutRefusal most heading size k ⌝ }
+    ensures packet { λ r. ⌜ ((message : List ℕ) → length message ≡ size → numberIn r ≡ 0
+        → bytesIn most message r ≡ packetAt most heading message k) ⌝ }
+{
+    match may_cut(most, heading, size, k) {
+        Outcome::Good => Piece::There {
+            header: packet_header(most, heading, size, k),
+            from: k * most,
+        },
+        Outcome::Refused(why) => Piece::Refused(why),
+    }
+}
+
+// A packet has a byte at least, so k is below 1,024, and k × most can't wrap; nothing is divided.
+fn may_cut(most: usize, heading: Heading, size: usize, k: usize) -> Outcome
     ensures { λ r. ⌜ outcomeNumber r ≡ cutRefusal most heading size k ⌝ }
 {
     if !mctp::body_right(most) {
@@ -65,24 +80,16 @@ pub fn may_cut(most: usize, heading: Heading, size: usize, k: usize) -> Outcome
 }
 
 // The header of packet k, of a message of this size that has one.
-pub fn packet_header(most: usize, heading: Heading, size: usize, k: usize) -> [u8; 4]
+fn packet_header(most: usize, heading: Heading, size: usize, k: usize) -> Header
     requires { ⌜ (1 ≤ most) × (most ≤ 246) × (k * most < size) × (size ≤ 1024) ⌝ }
-    ensures { λ r. ⌜ r ≡ headerBytes (packetHeader most heading size k) ⌝ }
+    ensures { λ r. ⌜ r ≡ packetHeader most heading size k ⌝ }
 {
     let key = heading.key;
-    mctp::header_bytes(Header {
+    Header {
         version: 1,
         start: k == 0,
         end: size <= k * most + most,
         sequence: ((heading.first as usize + k) % 4) as u8,
         key: key,
-    })
-}
-
-// The body of packet k, a part of the message.
-pub fn packet_body(most: usize, message: &[u8], k: usize) -> &[u8]
-    requires { ⌜ k * most < 1024 ⌝ }
-    ensures { λ r. ⌜ now r ≡ packetBody most (now (message .entry)) k ⌝ }
-{
-    octets::part(message, k * most, most)
+    }
 }

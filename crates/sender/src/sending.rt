@@ -2,12 +2,10 @@
 // message, and both go where they are to stand. Each call takes what the carrier's writer takes, with the message, its
 // heading and k in the packet's place.
 use crate::answer::Cut;
-use crate::cutting::may_cut;
-use crate::cutting::packet_body;
-use crate::cutting::packet_header;
+use crate::answer::Piece;
+use crate::cutting::cut;
 use crate::heading::Heading;
 use mctp::LARGEST_BODY;
-use mctp::Outcome;
 use mctp::Refusal;
 use mmbi::Flags;
 use mmbi::Pointers;
@@ -100,19 +98,19 @@ fn output_within(most: usize, out: &mut [u8], message: &[u8], heading: Heading, 
     ensures size { λ r. ⌜ sizeCut r ≡ outputSize most heading (now (message .entry)) k (length (now (out .entry))) ⌝ }
     ensures output { λ _. ⌜ now (out .exit) ≡ outputWritten most heading (now (message .entry)) k (now (out .entry)) ⌝ }
 {
-    match may_cut(most, heading, message.len(), k) {
-        Outcome::Good => {
-            let header = packet_header(most, heading, message.len(), k);
-            let body = packet_body(most, message, k);
+    match cut(most, heading, message.len(), k) {
+        Piece::There { header, from } => {
+            let front = mctp::header_bytes(header);
+            let body = octets::part(message, from, most);
             let size = 4 + body.len();
             if out.len() < size {
                 return Cut::Refused(Refusal::Room);
             }
-            octets::lay(out, 0, &header);
+            octets::lay(out, 0, &front);
             octets::lay(out, 4, body);
             Cut::Packet(size)
         }
-        Outcome::Refused(why) => Cut::Refused(why),
+        Piece::Refused(why) => Cut::Refused(why),
     }
 }
 
@@ -132,13 +130,13 @@ fn smbus_within(
     ensures output { λ _. ⌜ now (out .exit) ≡ smbusWritten most heading (now (message .entry)) k
         (now (out .entry)) destination source ⌝ }
 {
-    match may_cut(most, heading, message.len(), k) {
-        Outcome::Good => {
-            let header = packet_header(most, heading, message.len(), k);
-            let body = packet_body(most, message, k);
-            smbus::write_apart(most, out, &header, body, destination, source)
+    match cut(most, heading, message.len(), k) {
+        Piece::There { header, from } => {
+            let front = mctp::header_bytes(header);
+            let body = octets::part(message, from, most);
+            smbus::write_apart(most, out, &front, body, destination, source)
         }
-        Outcome::Refused(why) => smbus::Written::Refused(why),
+        Piece::Refused(why) => smbus::Written::Refused(why),
     }
 }
 
@@ -156,13 +154,13 @@ fn pcc_within(
     ensures region { λ _. ⌜ now (region .exit)
         ≡ pccWritten most heading (now (message .entry)) k (now (region .entry)) id notify ⌝ }
 {
-    match may_cut(most, heading, message.len(), k) {
-        Outcome::Good => {
-            let header = packet_header(most, heading, message.len(), k);
-            let body = packet_body(most, message, k);
-            pcc::write_apart(most, region, id, notify, &header, body)
+    match cut(most, heading, message.len(), k) {
+        Piece::There { header, from } => {
+            let front = mctp::header_bytes(header);
+            let body = octets::part(message, from, most);
+            pcc::write_apart(most, region, id, notify, &front, body)
         }
-        Outcome::Refused(why) => pcc::Written::Refused(why),
+        Piece::Refused(why) => pcc::Written::Refused(why),
     }
 }
 
@@ -181,12 +179,12 @@ fn ring_within(
     ensures ring { λ _. ⌜ now (ring .exit) ≡ ringWritten most heading (now (message .entry)) k
         (now (ring .entry)) configured flags pointers ⌝ }
 {
-    match may_cut(most, heading, message.len(), k) {
-        Outcome::Good => {
-            let header = packet_header(most, heading, message.len(), k);
-            let body = packet_body(most, message, k);
-            ring::write_apart(most, ring, configured, flags, pointers, &header, body)
+    match cut(most, heading, message.len(), k) {
+        Piece::There { header, from } => {
+            let front = mctp::header_bytes(header);
+            let body = octets::part(message, from, most);
+            ring::write_apart(most, ring, configured, flags, pointers, &front, body)
         }
-        Outcome::Refused(why) => ring::Written::Refused(why),
+        Piece::Refused(why) => ring::Written::Refused(why),
     }
 }

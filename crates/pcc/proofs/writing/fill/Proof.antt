@@ -9,7 +9,8 @@ use Rattle.pcc.proofs.writing.fill.Statement.{statement}
 use Rattle.pcc.proofs.writing.fill.Tie as tie
 
 -- the packet fits
-fits : (c : tie.Start) → 16 + (length (c .args .header .now) + length (c .args .body .now)) ≤ length (c .args .region .now)
+fits : (c : tie.Start) → let a = c .args in
+    16 + (length (a .header .now) + length (a .body .now)) ≤ length (a .region .now)
 fits c = omega arith
 
 -- the places after the body, the header and each word, from the last to the first

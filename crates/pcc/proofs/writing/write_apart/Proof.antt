@@ -27,7 +27,8 @@ number : (c : tie.After-may-write) →
 number c =
     let a = start c .args in
     c .may-write .ensures
-    ∙ ap (writeRefusal (a .most) (length (a .region .now)) (a .id)) (sym (length-append (a .header .now) (a .body .now)))
+    ∙ ap (writeRefusal (a .most) (length (a .region .now)) (a .id))
+    (sym (length-append (a .header .now) (a .body .now)))
 
 may : (c : tie.After-enum-told) →
     let a = start (c .before .before) .args in
@@ -59,5 +60,5 @@ returns-2 c =
 pub write-apart-spec : {M : Type 1} → statement M
 write-apart-spec =
     tie.close
-    (tie.spec (λ c. search needs) (λ c κs. search needs) (λ c. search needs) fill-requires (λ c. search needs) (λ c. search needs) returns
-    returns-2)
+    (tie.spec (λ c. search needs) (λ c κs. search needs) (λ c. search needs) fill-requires (λ c. search needs)
+    (λ c. search needs) returns returns-2)

@@ -59,7 +59,7 @@ returns-3 c =
 
 -- the first three checks pass, and packet k is past the end
 abbrev FailsLast : tie.Else3 → Type 0
-FailsLast c = FailsAt (cutOrder (start c .args .most) (start c .args .heading) (start c .args .size) (start c .args .k)) 3
+FailsLast c = let a = start c .args in FailsAt (cutOrder (a .most) (a .heading) (a .size) (a .k)) 3
 
 past : (c : tie.Else3) → start c .args .size ≤ start c .args .k * start c .args .most → FailsLast c
 past c h =

@@ -1,12 +1,9 @@
 -- `sender::cutting::packet_header` meets its contract: the last packet is the one in which the message ends.
 -- Assumes nothing.
-use mathlib.Core.Path.{ap, _∙_}
-use mathlib.Core.Bool.{Bool}
 use Prim.Native.Nat.{_+_, _%_}
 use native.Mathlib.Nat.{le-mul-of-pos-right}
 use native.Mathlib.Omega.{arith}
 use lib.Dec.{eqb}
-use Rattle.mctp.specs.Key.{headerBytes}
 use Rattle.sender.specs.Cutting.{packetHeader}
 use Rattle.sender.proofs.Cuts.{last-is}
 use borrow.Author.Needs.{needs}
@@ -22,18 +19,17 @@ add-t11 c =
 returns : tie.Need-returns
 unfolding packetHeader
 returns c =
-    let a = c .before .before .before .args in
-    c .header-bytes .ensures
-    ∙ ap (λ (end : Bool). headerBytes (record {
+    let a = c .before .before .args in
+    let last = last-is (a .most) (a .size) (a .k) (omega arith) (omega arith) in
+    λ i. record {
       version = 1;
       start = eqb (a .k) 0;
-      end = end;
+      end = last i;
       sequence = (a .heading .first + a .k) % 4;
       key = a .heading .key;
-    })) (last-is (a .most) (a .size) (a .k) (omega arith) (omega arith))
+    }
 
 pub packet-header-spec : {M : Type 1} → statement M
 packet-header-spec =
     tie.close
-    (tie.spec (λ c. search needs) (λ c. search needs) (λ c. search needs) add-t11 (λ c. search needs)
-    (λ c κs. search needs) returns)
+    (tie.spec (λ c. search needs) (λ c. search needs) (λ c. search needs) add-t11 (λ c. search needs) returns)

@@ -7,69 +7,60 @@ use native.Mathlib.Omega.{arith}
 use lib.ListN.{length, length-append}
 use Rattle.octets.specs.Bytes.{laid}
 use Rattle.mctp.proofs.Headers.{header-length}
-use Rattle.mctp.specs.Refusals.{outcomeNumber}
-use Rattle.sender.specs.Cutting.{packetAt, cutRefusal}
-use Rattle.sender.proofs.Cuts.{there}
-use Rattle.sender.proofs.Sendings.{pieces, laid-pieces, by-output, no-room, not-by-output}
+use Rattle.sender.specs.Answers.{numberIn}
+use Rattle.sender.specs.Cutting.{packetAt}
+use Rattle.sender.specs.Sending.{cutNumber}
+use Rattle.sender.proofs.Sendings.{told-there, laid-pieces, by-output, no-room, not-by-output}
 use borrow.Author.Needs.{needs}
 use Rattle.sender.proofs.sending.output_within.Statement.{statement}
 use Rattle.sender.proofs.sending.output_within.Tie as tie
 
-abbrev start : tie.After-enum-told → tie.Start
-start c = c .before .before .before .before .before
+-- the packet's two pieces, and its size
+module _ (c : tie.After-part) where
+  abbrev start : tie.Start
+  start = c .before .before .before .before .before .before .before .before
 
--- packet k is there
-zero : (c : tie.After-enum-told) → let a = start c .args in
-    cutRefusal (a .most) (a .heading) (length (a .message .now)) (a .k) ≡ 0
-zero c = sym (c .before .before .may-cut .ensures) ∙ ap outcomeNumber (c .enum-told .given .1)
+  abbrev out : List ℕ
+  out = start .args .out .now
 
-packet-header-requires : tie.Need-packet-header-requires
-packet-header-requires c κs = let g = there _ _ _ _ (zero c) in omega arith
-
-packet-body-requires : tie.Need-packet-body-requires
-packet-body-requires c κs = let g = there _ _ _ _ (zero (c .before)) in omega arith
-
--- its two pieces, and its size
-module _ (c : tie.After-packet-body) where
-  abbrev told : tie.After-enum-told
-  told = c .before .before
-
-  abbrev header : List ℕ
-  header = c .before .packet-header .result
+  abbrev front : List ℕ
+  front = c .before .header-bytes .result
 
   abbrev body : List ℕ
-  body = c .packet-body .result .now
+  body = c .part .result .now
 
-  whole : let a = start told .args in header ++ body ≡ packetAt (a .most) (a .heading) (a .message .now) (a .k)
-  whole = pieces _ _ _ _ _ _ (c .before .packet-header .ensures) (c .packet-body .ensures)
+  whole : let a = start .args in (cutNumber (a .most) (a .heading) (a .message .now) (a .k) ≡ 0)
+      × (front ++ body ≡ packetAt (a .most) (a .heading) (a .message .now) (a .k))
+  whole =
+      let header = c .before .before .before in
+      let cut = header .before .before .cut .ensures in
+      told-there _ _ _ _ _ (cut .0) (cut .1) _ _ _ _ (header .header .given .1) (c .before .header-bytes .ensures)
+      (c .part .ensures)
 
-  four : length header ≡ 4
-  four = ap length (c .before .packet-header .ensures) ∙ header-length _
+  four : length front ≡ 4
+  four = ap length (c .before .header-bytes .ensures) ∙ header-length _
 
-  size : length (header ++ body) ≡ 4 + length body
-  size = length-append header body ∙ ap (λ (n : ℕ). n + length body) four
+  size : length (front ++ body) ≡ 4 + length body
+  size = length-append front body ∙ ap (λ (n : ℕ). n + length body) four
 
 returns : tie.Need-returns
 returns c =
     let b = c .before in
-    let out = start (told b) .args .out .now in
-    let unsent = no-room _ _ _ _ (zero (told b)) _ (whole b) out (omega (arith, size b)) in
+    let unsent = no-room _ _ _ _ (whole b .0) _ (whole b .1) (out b) (omega (arith, size b)) in
     (unsent .0, (unsent .1, unsent .2))
 
 returns-2 : tie.Need-returns-2
 returns-2 c =
     let second = c .before .before in
     let first = second .before .before .before .before in
-    let else = first .before .before .before in
-    let b = else .before in
-    let out = start (told b) .args .out .now in
-    let sent = by-output _ _ _ _ (zero (told b)) _ (whole b) out (omega (arith, size b)) in (
+    let b = first .before .before .before .before in
+    let sent = by-output _ _ _ _ (whole b .0) _ (whole b .1) (out b) (omega (arith, size b)) in (
       sent .0,
       (
         sym (size b) ∙ sent .1,
         second .lay2 .ensures
             ∙ ap (λ (o : List ℕ). laid o 4 (body b)) (first .lay .ensures)
-            ∙ laid-pieces out (header b) (body b) (four b) (omega (arith, size b))
+            ∙ laid-pieces (out b) (front b) (body b) (four b) (omega (arith, size b))
             ∙ sent .2,
       ),
     )
@@ -77,12 +68,12 @@ returns-2 c =
 returns-3 : tie.Need-returns-3
 returns-3 c =
     let unsent = not-by-output _ _ _ _ (c .before .why .given .0 .0)
-    (sym (c .before .before .before .may-cut .ensures) ∙ ap outcomeNumber (c .before .why .given .1)) _ in
+    (sym (c .before .before .before .cut .ensures .0) ∙ ap numberIn (c .before .why .given .1)) _ in
     (unsent .0, (unsent .1, unsent .2))
 
 pub output-within-spec : {M : Type 1} → statement M
 output-within-spec =
     tie.close
-    (tie.spec (λ c κs. search needs) (λ c. search needs) packet-header-requires packet-body-requires (λ c. search needs)
-    returns (λ c. search needs) (λ c κs. search needs) (λ c κs. search needs) (λ c. search needs) (λ c. search needs)
-    returns-2 returns-3)
+    (tie.spec (λ c κs. search needs) (λ c. search needs) (λ c κs. search needs) (λ c κs. search needs)
+    (λ c. search needs) returns (λ c. search needs) (λ c κs. search needs) (λ c κs. search needs) (λ c. search needs)
+    (λ c. search needs) returns-2 returns-3)

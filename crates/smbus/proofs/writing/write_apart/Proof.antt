@@ -19,7 +19,8 @@ start c = c .before .before .before .before
 -- the checks' number is that of the packet whole
 number : (c : tie.After-may-write) → let a = start c .args in
     outcomeNumber (c .may-write .result)
-    ≡ writeRefusal (a .most) (length (a .out .now)) (length (a .header .now ++ a .body .now)) (a .destination) (a .source)
+    ≡ writeRefusal (a .most) (length (a .out .now)) (length (a .header .now ++ a .body .now)) (a .destination)
+    (a .source)
 number c =
     let a = start c .args in
     c .may-write .ensures

@@ -13,11 +13,11 @@ told e = sym (ap numberOf e)
 pub number-spec : {M : Type 1} → statement M
 number-spec =
     tie.close
-    (tie.spec (λ c. search needs) (λ c. search needs) (λ c. search needs) (λ c. search needs) (λ c. search needs) (λ c. search needs)
+    (tie.spec (λ c. search needs) (λ c. search needs) (λ c. search needs) (λ c. search needs) (λ c. search needs)
     (λ c. search needs) (λ c. search needs) (λ c. search needs) (λ c. search needs) (λ c. search needs)
     (λ c. search needs) (λ c. search needs) (λ c. search needs) (λ c. search needs) (λ c. search needs)
     (λ c. search needs) (λ c. search needs) (λ c. search needs) (λ c. search needs) (λ c. search needs)
-    (λ c. search needs) (λ c. search needs) (λ c. told (c .enum-told .given .1)) (λ c. told (c .enum-told2 .given .1))
+    (λ c. search needs) (λ c. search needs) (λ c. search needs) (λ c. told (c .enum-told .given .1)) (λ c. told (c .enum-told2 .given .1))
     (λ c. told (c .enum-told3 .given .1)) (λ c. told (c .enum-told4 .given .1)) (λ c. told (c .enum-told5 .given .1))
     (λ c. told (c .enum-told6 .given .1)) (λ c. told (c .enum-told7 .given .1)) (λ c. told (c .enum-told8 .given .1))
     (λ c. told (c .enum-told9 .given .1)) (λ c. told (c .enum-told10 .given .1))
