@@ -7,9 +7,9 @@ use crate::text::say;
 use crate::text::tell;
 use mctp::Eid;
 
-// The header F1 09 0A BD: its first four bits are reserved, BD is 1011 1101.
-pub fn tell_fields() {
-    let header = mctp::header_of(b"\xF1\x09\x0A\xBD");
+// A packet's header, field by field. In F1 09 0A BD the first four bits are reserved, and BD is 1011 1101.
+pub fn tell_fields(packet: &[u8]) {
+    let header = mctp::header_of(packet);
     let key = header.key;
     tell(b"version ", header.version as usize);
     tell_if(header.start, b", start");

@@ -7,11 +7,12 @@ mod messages;
 mod packets;
 mod paths;
 mod regions;
+mod sending;
 mod states;
 mod text;
 
 // What was tried, line by line, and a mark for what came of it: a byte of 0x80 or more.
-const PAGE: [u8; 1237] = *b"SMBus
+const PAGE: [u8; 1665] = *b"SMBus
 smbus frame of 9 bytes: \x80
 smbus frame of 10 bytes: \x81
 smbus frame of 73 bytes: \x82
@@ -63,8 +64,24 @@ fourth key: \xC3
 fifth key: \xC4
 fifth key after slot 2 is freed: \xC5
 fifth key started over: \xC6
-slot 3 freed: \xD3
-slot 4 freed: \xD4
+slot 3 freed: \xC7
+slot 4 freed: \xC8
+
+Messages sent from EID 10 to EID 9, tag owner, tag 5, first sequence 3
+message of 0 bytes: \xD0
+message of 1 byte: \xD1
+message of 64 bytes: \xD2
+message of 65 bytes: \xD3
+message of 1024 bytes: \xD4
+message of 1025 bytes: \xD5
+message of 130 bytes: \xD6
+its packet 0: \xD7
+its packet 1: \xD8
+its packet 2: \xD9
+its packet 3: \xDA
+its packet 0 in an output of 67 bytes: \xDB
+its packet 0 to EID 7 instead: \xDC
+its frames, one by one to a fresh receiver at EID 9: \xDD
 
 The packet 01 09 0A C8 00 on the three paths, each to a fresh receiver at EID 9
 path smbus: \xE0
@@ -125,11 +142,31 @@ fn tell_trial(mark: u8) {
         0xC4 => keys::tell(4, 0x8C),
         0xC5 => keys::tell(6, 0x8C),
         0xC6 => keys::tell(7, 0x8C),
-        0xD3 => keys::tell_freed(3),
-        0xD4 => keys::tell_freed(4),
+        0xC7 => keys::tell_freed(3),
+        0xC8 => keys::tell_freed(4),
         0xE0 => paths::tell_smbus(),
         0xE1 => paths::tell_pcc(),
         0xE2 => paths::tell_ring(),
+        _ => tell_sending(mark),
+    }
+}
+
+fn tell_sending(mark: u8) {
+    match mark {
+        0xD0 => sending::tell_count(0),
+        0xD1 => sending::tell_count(1),
+        0xD2 => sending::tell_count(64),
+        0xD3 => sending::tell_count(65),
+        0xD4 => sending::tell_count(1024),
+        0xD5 => sending::tell_count(1025),
+        0xD6 => sending::tell_count(130),
+        0xD7 => sending::tell_packet(9, 0),
+        0xD8 => sending::tell_packet(9, 1),
+        0xD9 => sending::tell_packet(9, 2),
+        0xDA => sending::tell_packet(9, 3),
+        0xDB => sending::tell_short(),
+        0xDC => sending::tell_packet(7, 0),
+        0xDD => sending::tell_frames(),
         _ => tell_header(mark),
     }
 }
@@ -148,6 +185,6 @@ fn tell_header(mark: u8) {
         0xFA => headers::tell_from(8),
         0xFB => headers::tell_from(254),
         0xFC => headers::tell_from(255),
-        _ => headers::tell_fields(),
+        _ => headers::tell_fields(b"\xF1\x09\x0A\xBD"),
     }
 }

@@ -7,7 +7,7 @@ use crate::text::say;
 use mmbi::Pointers;
 use rack::Arrived;
 
-fn tell_arrived(arrived: Arrived) {
+pub fn tell_arrived(arrived: Arrived) {
     match arrived {
         Arrived::Given { beside: _, answer } => tell_answer(answer),
         Arrived::Nothing { why: _ } => say(b"no packet"),
