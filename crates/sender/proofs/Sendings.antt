@@ -25,8 +25,8 @@ use Rattle.mmbi.specs.declared.interface.Flags.{Flags}
 use Rattle.mmbi.specs.declared.pointer.Pointers.{Pointers}
 use Rattle.mmbi.specs.Interface.{stateOf, mayWrite}
 use Rattle.ring.specs.Writing as rings
-use Rattle.sender.specs.declared.answer.Piece.{Piece}
-use Rattle.sender.specs.declared.answer.Piece.the-variants.{There}
+use Rattle.sender.specs.declared.cutting.Piece.{Piece}
+use Rattle.sender.specs.declared.cutting.Piece.the-variants.{There}
 use Rattle.sender.specs.declared.heading.Heading.{Heading}
 use Rattle.sender.specs.Cutting.{packetAt, cutRefusal}
 use Rattle.sender.specs.Answers.{numberIn, bytesIn}

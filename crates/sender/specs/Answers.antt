@@ -1,4 +1,4 @@
--- What the sender's answers say: the number, and the value that goes with it.
+-- What the sender's answers say, and a piece of a message: the number, and the value that goes with it.
 -- Assumes nothing.
 use Prim.Native.Nat.{ℕ}
 use mathlib.Core.List.{List, [], _++_}
@@ -7,8 +7,8 @@ use Rattle.mctp.specs.Key.{headerBytes}
 use Rattle.mctp.specs.Refusals.{numberOf}
 use Rattle.sender.specs.declared.answer.Counted.{Counted}
 use Rattle.sender.specs.declared.answer.Counted.the-variants as counted
-use Rattle.sender.specs.declared.answer.Piece.{Piece}
-use Rattle.sender.specs.declared.answer.Piece.the-variants as piece
+use Rattle.sender.specs.declared.cutting.Piece.{Piece}
+use Rattle.sender.specs.declared.cutting.Piece.the-variants as piece
 use Rattle.sender.specs.declared.answer.Cut.{Cut}
 use Rattle.sender.specs.declared.answer.Cut.the-variants as cut
 

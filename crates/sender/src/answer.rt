@@ -1,16 +1,9 @@
 // What the sender answers; on a carrier it answers as the carrier's writer does.
-use mctp::Header;
 use mctp::Refusal;
 
 // How many packets a message makes, or the refusal.
 pub enum Counted {
     Packets(usize),
-    Refused(Refusal),
-}
-
-// Packet k before it goes anywhere: its header, and where in the message its body begins; or the refusal.
-pub enum Piece {
-    There { header: Header, from: usize },
     Refused(Refusal),
 }
 

@@ -1,6 +1,5 @@
 // A message cut into packets: how many there are, and packet k as a header and a place in the message.
 use crate::answer::Counted;
-use crate::answer::Piece;
 use crate::heading::Heading;
 use crate::heading::heading_right;
 use mctp::Header;
@@ -42,7 +41,13 @@ fn message_right(size: usize) -> bool
     (1 <= size) & (size <= 1024)
 }
 
-// Packet k of a message of this size, or why there is none: all that is refused before the packet goes anywhere.
+// Packet k before it goes anywhere: its header, and where in the message its body begins; or the refusal.
+pub enum Piece {
+    There { header: Header, from: usize },
+    Refused(Refusal),
+}
+
+// Packet k of a message of this size: all that is refused before it goes anywhere is refused here.
 pub fn cut(most: usize, heading: Heading, size: usize, k: usize) -> Piece
     ensures number { λ r. ⌜ numberIn r ≡ cutRefusal most heading size k ⌝ }
     ensures packet { λ r. ⌜ ((message : List ℕ) → length message ≡ size → numberIn r ≡ 0

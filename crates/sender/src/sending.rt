@@ -2,7 +2,7 @@
 // message, and both go where they are to stand. Each call takes what the carrier's writer takes, with the message, its
 // heading and k in the packet's place.
 use crate::answer::Cut;
-use crate::answer::Piece;
+use crate::cutting::Piece;
 use crate::cutting::cut;
 use crate::heading::Heading;
 use mctp::LARGEST_BODY;
