@@ -21,7 +21,8 @@ pub fn write(region: &mut [u8], id: u32, notify: bool, packet: &[u8]) -> Written
         (length (now (packet .entry))) ⌝ }
     ensures region { λ _. ⌜ now (region .exit) ≡ writtenOf 64 (now (region .entry)) id notify (now (packet .entry)) ⌝ }
 {
-    write_apart(LARGEST_BODY, region, id, notify, &packet[0..0], packet)
+    let none = &packet[0..0];
+    write_apart(LARGEST_BODY, region, id, notify, none, packet)
 }
 
 // A packet whose header and body lie apart, with the largest body as a number: who cuts a message needs no buffer of a

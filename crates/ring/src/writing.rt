@@ -28,13 +28,14 @@ pub fn write(
     ensures ring { λ _. ⌜ now (ring .exit) ≡ writtenOf 64 (now (ring .entry)) configured (mayWrite (stateOf flags))
         (pointers .read) (pointers .write) (now (packet .entry)) ⌝ }
 {
+    let none = &packet[0..0];
     write_apart(
         mctp::LARGEST_BODY,
         ring,
         configured,
         flags,
         pointers,
-        &packet[0..0],
+        none,
         packet,
     )
 }

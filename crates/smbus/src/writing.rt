@@ -22,14 +22,8 @@ pub fn write(out: &mut [u8], packet: &[u8], destination: u8, source: u8) -> Writ
     ensures output { λ _. ⌜ now (out .exit)
         ≡ writtenOf 64 (now (out .entry)) (now (packet .entry)) destination source ⌝ }
 {
-    write_apart(
-        LARGEST_BODY,
-        out,
-        &packet[0..0],
-        packet,
-        destination,
-        source,
-    )
+    let none = &packet[0..0];
+    write_apart(LARGEST_BODY, out, none, packet, destination, source)
 }
 
 // A packet whose header and body lie apart, with the largest body as a number: who cuts a message needs no buffer of a
