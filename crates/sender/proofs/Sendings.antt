@@ -34,18 +34,18 @@ use Rattle.sender.specs.Sending.{ifCut, cutNumber, outputRefusal, output
 use Rattle.sender.specs.Sending.{smbusRefusal, smbusSize, smbusWritten}
 use Rattle.sender.specs.Sending.{pccRefusal, pccWritten, ringEntered, ringWritten}
 
-module _ (most : ℕ) (heading : Heading) (message : List ℕ) (k : ℕ) (r : Piece)
-    (number : numberIn r ≡ cutRefusal most heading (length message) k)
-    (bytes : (other : List ℕ) → length other ≡ length message → numberIn r ≡ 0
-    → bytesIn most other r ≡ packetAt most heading other k) where
-  -- a piece that is there: packet k is its header's bytes and its part of the message
-  pub told-there : (header : Header) (from : ℕ) (front body : List ℕ) → r ≡ There header from
-      → front ≡ headerBytes header → body ≡ part message from most
-      → (cutNumber most heading message k ≡ 0) × (front ++ body ≡ packetAt most heading message k)
-  told-there header from front body is f b = (
-    sym number ∙ ap numberIn is,
-    (λ i. f i ++ b i) ∙ sym (ap (bytesIn most message) is) ∙ bytes message refl (ap numberIn is),
-  )
+-- a piece that is there: packet k is its header's bytes and its part of the message
+pub told-there : (most : ℕ) (heading : Heading) (message : List ℕ) (k : ℕ) (r : Piece)
+    → (numberIn r ≡ cutRefusal most heading (length message) k)
+    × ((other : List ℕ) → length other ≡ length message → numberIn r ≡ 0
+    → bytesIn most other r ≡ packetAt most heading other k)
+    → (header : Header) (from : ℕ) (front body : List ℕ) → r ≡ There header from
+    → front ≡ headerBytes header → body ≡ part message from most
+    → (cutNumber most heading message k ≡ 0) × (front ++ body ≡ packetAt most heading message k)
+told-there most heading message k r cut header from front body is f b = (
+  sym (cut .0) ∙ ap numberIn is,
+  (λ i. f i ++ b i) ∙ sym (ap (bytesIn most message) is) ∙ cut .1 message refl (ap numberIn is),
+)
 
 -- laid one behind the other
 pub laid-pieces : (out header body : List ℕ) → length header ≡ 4 → 4 + length body ≤ length out

@@ -33,9 +33,8 @@ module _ (c : tie.After-part) where
       × (front ++ body ≡ packetAt (a .most) (a .heading) (a .message .now) (a .k))
   whole =
       let header = c .before .before .before in
-      let cut = header .before .before .cut .ensures in
-      told-there _ _ _ _ _ (cut .0) (cut .1) _ _ _ _ (header .header .given .1) (c .before .header-bytes .ensures)
-      (c .part .ensures)
+      told-there _ _ _ _ _ (header .before .before .cut .ensures) _ _ _ _ (header .header .given .1)
+      (c .before .header-bytes .ensures) (c .part .ensures)
 
   four : length front ≡ 4
   four = ap length (c .before .header-bytes .ensures) ∙ header-length _

@@ -12,8 +12,7 @@ returns c =
     let sent = c .before .before in
     let body = sent .before .before .before in
     let header = body .before .before .before in
-    let cut = header .before .before .cut .ensures in
-    let whole = told-there _ _ _ _ _ (cut .0) (cut .1) _ _ _ _ (header .header .given .1)
+    let whole = told-there _ _ _ _ _ (header .before .before .cut .ensures) _ _ _ _ (header .header .given .1)
     (body .before .header-bytes .ensures) (body .part .ensures) in
     let as-sent = by-ring _ _ _ _ (whole .0) _ (whole .1) _ _ _ _ in
     let ensured = sent .write-apart .ensures in
