@@ -4,11 +4,25 @@ use mathlib.Core.Path.{_≡_, refl}
 use mathlib.Core.Bool.{Bool, true, false}
 use mathlib.Core.List.{List, [], _∷_, _++_, map}
 use Prim.Native.Nat.{ℕ}
+use lib.Dec.{lit≤}
 use lib.ListN.{replicate}
+use Rattle.octets.specs.Bytes.{laid, fronted}
+use Rattle.octets.specs.Words.{wordBytes}
 use Rattle.mctp.specs.Key.{flagsFor, headerBytes}
+use Rattle.smbus.proofs.Literal.{literalFrame, literal-size, literal-output}
+use Rattle.pcc.proofs.Literal.{literalRegion, literal-written, literal-quiet}
+use Rattle.mmbi.specs.declared.pointer.Pointers.{Pointers}
+use Rattle.mmbi.specs.Interface.{normalRuntime, askedByHost, stateOf}
+use Rattle.ring.specs.Layout.{headerFor, ringBytes}
+use Rattle.ring.specs.Numbers.{filledOf, roomOf, nextOf}
+use Rattle.ring.specs.Round.{roundFrom, stored}
+use Rattle.ring.specs.Writing.{entered, refused, enteredOf}
+use Rattle.ring.proofs.Literal.{written}
 use Rattle.sender.specs.declared.heading.Heading.{Heading}
 use Rattle.sender.specs.Cutting.{packetsIn, packetHeader, packetAt, headingRight, countRefusal, countOf}
 use Rattle.sender.specs.Cutting.{cutRefusal}
+use Rattle.sender.specs.Sending.{outputRefusal, outputSize, outputWritten, smbusSize, smbusWritten, pccWritten}
+use Rattle.sender.specs.Sending.{ringEntered, ringWritten}
 use Rattle.sender.specs.Whole.{along, allPackets}
 
 -- a heading by its five numbers
@@ -91,3 +105,37 @@ pub ends : (map (cutRefusal 64 answering 130) (0 ∷ 2 ∷ 3 ∷ 4 ∷ []) ≡ 0
     × (map (cutRefusal 64 answering 1) (0 ∷ 1 ∷ 0x400_0000_0000_0000 ∷ []) ≡ 0 ∷ 23 ∷ 23 ∷ [])
 unfolding cutRefusal
 ends = (refl, refl, refl, refl)
+
+-- each call on bytes that are written out: the last packet of 130 bytes, in an output of eight
+pub in-an-output : (outputSize 64 answering message130 2 8 ≡ 6)
+    × (outputWritten 64 answering message130 2 (replicate 8 0xEE)
+    ≡ 1 ∷ 9 ∷ 10 ∷ 0x5D ∷ 3 ∷ 3 ∷ 0xEE ∷ 0xEE ∷ [])
+unfolding outputRefusal outputSize outputWritten fronted cutRefusal packetAt packetHeader headerBytes flagsFor
+in-an-output = (refl, refl)
+
+-- one byte from EID 10 to EID 9: from address 0x11 to 0x20 it is document 01's frame
+abbrev alone : Heading
+alone = headed 9 10 true 0 0
+
+pub as-a-frame : (smbusSize 64 alone (0 ∷ []) 0 12 0x20 0x11 ≡ 10)
+    × (smbusWritten 64 alone (0 ∷ []) 0 (replicate 12 0xEE) 0x20 0x11 ≡ literalFrame ++ (0xEE ∷ 0xEE ∷ []))
+unfolding smbusSize smbusWritten cutRefusal packetAt packetHeader headerBytes flagsFor
+as-a-frame = (literal-size 12 (lit≤ tt), literal-output (replicate 12 0xEE) (lit≤ tt))
+
+-- under id 3 it is pcc's region, with notify and without
+pub in-a-region : (pccWritten 64 alone (0 ∷ []) 0 (replicate 84 0xFF) 3 true ≡ literalRegion)
+    × (pccWritten 64 alone (0 ∷ []) 0 (replicate 84 0xFF) 3 false ≡ laid literalRegion 4 (0 ∷ []))
+unfolding pccWritten cutRefusal packetAt packetHeader headerBytes flagsFor
+in-a-region = (literal-written, literal-quiet)
+
+-- in a ring of bytes EE, with packets from byte 100 on before it: from byte 120 on, over the end; and not while a reset
+-- is asked
+abbrev behind : Pointers
+behind = record { read = 100; write = 120 }
+
+pub in-a-ring : (ringEntered 64 alone (0 ∷ []) 0 128 128 normalRuntime behind ≡ entered 4)
+    × (ringWritten 64 alone (0 ∷ []) 0 (replicate 128 238) 128 normalRuntime behind ≡ written)
+    × (ringEntered 64 alone (0 ∷ []) 0 128 128 askedByHost behind ≡ refused 11)
+unfolding ringEntered ringWritten cutRefusal packetAt packetHeader headerBytes flagsFor stateOf enteredOf filledOf roomOf
+    nextOf roundFrom stored fronted ringBytes headerFor wordBytes
+in-a-ring = (refl, refl, refl)
