@@ -1,16 +1,23 @@
 -- Cutting a message into packets, sentence by sentence (document 02, #101), each a theorem over the definitions that
 -- the public contracts cite. 64 is the base's largest body.
 -- Assumes nothing.
-use mathlib.Core.Path.{_≡_, refl}
+use mathlib.Core.Path.{_≡_, refl, sym}
 use mathlib.Core.Bool.{Bool, true}
 use mathlib.Core.List.{List, _++_, flatten}
+use mathlib.Core.Logic.{_⊎_}
 use Prim.Native.Nat.{ℕ, _≤_, _<_}
 use native.Mathlib.Omega.{arith}
 use lib.ListN.{length}
+use Rattle.octets.specs.Bytes.{fronted}
 use Rattle.octets.specs.Checks.{Hold}
+use Rattle.octets.proofs.Choice.{within-holds}
 use Rattle.mctp.specs.Packet.{bodyRight}
+use Rattle.smbus.specs.Writing as frames
+use Rattle.pcc.specs.Writing as regions
 use Rattle.mmbi.specs.declared.interface.Flags.{Flags}
 use Rattle.mmbi.specs.declared.pointer.Pointers.{Pointers}
+use Rattle.mmbi.specs.Interface.{stateOf, mayWrite}
+use Rattle.ring.specs.Writing as rings
 use Rattle.ring.specs.Writing.{refused}
 use Rattle.slots.specs.declared.state.Setup.{Setup}
 use Rattle.slots.specs.Changes.{fresh}
@@ -19,11 +26,12 @@ use Rattle.decision.specs.Checks.{packetOrder, sourceOrder}
 use Rattle.messages.specs.Run.{runPackets}
 use Rattle.sender.specs.declared.heading.Heading.{Heading}
 use Rattle.sender.specs.Cutting.{packetsIn, packetAt, headingRight, messageRight, countOf, cutRefusal}
-use Rattle.sender.specs.Sending.{outputRefusal, outputWritten, smbusRefusal, smbusWritten, pccRefusal, pccWritten}
-use Rattle.sender.specs.Sending.{ringEntered, ringWritten}
+use Rattle.sender.specs.Sending.{outputRefusal, outputSize, outputWritten, smbusRefusal, smbusSize, smbusWritten}
+use Rattle.sender.specs.Sending.{pccRefusal, pccWritten, ringEntered, ringWritten}
 use Rattle.sender.specs.Whole.{allPackets, allBodies}
-use Rattle.sender.proofs.Cuts.{there-exactly}
+use Rattle.sender.proofs.Cuts.{there-exactly, in-range}
 use Rattle.sender.proofs.Packets.{all-counted, bodies-joined}
+use Rattle.sender.proofs.Sendings.{by-output, no-room, by-smbus, by-pcc, by-ring}
 use Rattle.sender.proofs.Sendings.{output-unwritten, smbus-unwritten, pcc-unwritten, ring-unwritten}
 use Rattle.demands.specs.Presenting.{present}
 use Rattle.demands.specs.Sending.{GivesMessage}
@@ -32,6 +40,16 @@ use Rattle.demands.proofs.Demands.{the-path-does-not-matter}
 use Rattle.demands.proofs.Fed.{packet-checked, fed-in-order}
 use Rattle.demands.proofs.Ways.{sent-packets, right-way-goes}
 
+-- "Given a message of 1 to 1,024 bytes, a destination (0, 8 to 254 or 255), a source (0 or 8 to 254), tag owner, tag
+-- and first sequence number": all of these are right
+pub these-may-be-sent : (heading : Heading) (message : List ℕ)
+    → let d = heading .key .destination .0 in let s = heading .key .source .0 in
+    (d ≡ 0) ⊎ (8 ≤ d) → (s ≡ 0) ⊎ (8 ≤ s) → s ≤ 254 → heading .key .tag ≤ 7 → heading .first ≤ 3
+    → 1 ≤ length message → length message ≤ 1024
+    → (headingRight heading ≡ true) × (messageRight (length message) ≡ true)
+these-may-be-sent heading message d s below tag first some most =
+    (in-range heading d s below tag first, within-holds 1 1024 (length message) some most)
+
 -- "give packet k of it, k from 0": there is one exactly if k is below their number; "23 for k past the end" exactly if
 -- it isn't
 pub a-packet-is-there-or-past-the-end : (heading : Heading) (message : List ℕ) (k : ℕ)
@@ -39,6 +57,56 @@ pub a-packet-is-there-or-past-the-end : (heading : Heading) (message : List ℕ)
     → (k < packetsIn 64 (length message) → cutRefusal 64 heading (length message) k ≡ 0)
     × (packetsIn 64 (length message) ≤ k → cutRefusal 64 heading (length message) k ≡ 23)
 a-packet-is-there-or-past-the-end heading message k = there-exactly 64 heading (length message) k refl
+
+-- it goes to the front of every output that holds it, and "2 for a bare packet's output" that doesn't
+pub an-output-takes-packet-k : (heading : Heading) (message : List ℕ) (k : ℕ) (out : List ℕ)
+    → cutRefusal 64 heading (length message) k ≡ 0
+    → (length (packetAt 64 heading message k) ≤ length out
+    → (outputRefusal 64 heading message k (length out) ≡ 0)
+    × (outputSize 64 heading message k (length out) ≡ length (packetAt 64 heading message k))
+    × (outputWritten 64 heading message k out ≡ fronted out (packetAt 64 heading message k)))
+    × (length out < length (packetAt 64 heading message k) → outputRefusal 64 heading message k (length out) ≡ 2)
+an-output-takes-packet-k heading message k out e =
+    let p = packetAt 64 heading message k in (
+      (λ h. let is = by-output 64 heading message k e p refl out h in (sym (is .0), sym (is .1), sym (is .2))),
+      (λ h. sym (no-room 64 heading message k e p refl out h .0)),
+    )
+
+-- "then the carrier's own": on a path it is answered, and written, as the carrier's writer has packet k
+pub as-smbus-writes-it : (heading : Heading) (message : List ℕ) (k : ℕ) (out : List ℕ) (destination source : ℕ)
+    → cutRefusal 64 heading (length message) k ≡ 0
+    → (smbusRefusal 64 heading message k (length out) destination source
+    ≡ frames.writeRefusal 64 (length out) (length (packetAt 64 heading message k)) destination source)
+    × (smbusSize 64 heading message k (length out) destination source
+    ≡ frames.sizeOf 64 (length out) (length (packetAt 64 heading message k)) destination source)
+    × (smbusWritten 64 heading message k out destination source
+    ≡ frames.writtenOf 64 out (packetAt 64 heading message k) destination source)
+as-smbus-writes-it heading message k out destination source e =
+    let is = by-smbus 64 heading message k e (packetAt 64 heading message k) refl out destination source in
+    (sym (is .0), sym (is .1), sym (is .2))
+
+pub as-pcc-writes-it : (heading : Heading) (message : List ℕ) (k : ℕ) (region : List ℕ) (id : ℕ) (notify : Bool)
+    → cutRefusal 64 heading (length message) k ≡ 0
+    → (pccRefusal 64 heading message k (length region) id
+    ≡ regions.writeRefusal 64 (length region) id (length (packetAt 64 heading message k)))
+    × (pccWritten 64 heading message k region id notify
+    ≡ regions.writtenOf 64 region id notify (packetAt 64 heading message k))
+as-pcc-writes-it heading message k region id notify e =
+    let is = by-pcc 64 heading message k e (packetAt 64 heading message k) refl region id notify in
+    (sym (is .0), sym (is .1))
+
+pub as-a-ring-writes-it : (heading : Heading) (message : List ℕ) (k : ℕ) (ring : List ℕ) (configured : ℕ)
+    (flags : Flags) (pointers : Pointers)
+    → cutRefusal 64 heading (length message) k ≡ 0
+    → (ringEntered 64 heading message k (length ring) configured flags pointers
+    ≡ rings.enteredOf 64 (length ring) configured (mayWrite (stateOf flags)) (pointers .read) (pointers .write)
+    (length (packetAt 64 heading message k)))
+    × (ringWritten 64 heading message k ring configured flags pointers
+    ≡ rings.writtenOf 64 ring configured (mayWrite (stateOf flags)) (pointers .read) (pointers .write)
+    (packetAt 64 heading message k))
+as-a-ring-writes-it heading message k ring configured flags pointers e =
+    let is = by-ring 64 heading message k e (packetAt 64 heading message k) refl ring configured flags pointers in
+    (sym (is .0), sym (is .1))
 
 -- "their number is its length divided by 64, rounded up": what the counting call tells is how many there are
 pub their-number-is-told : (heading : Heading) (message : List ℕ) → messageRight (length message) ≡ true

@@ -1,9 +1,9 @@
 -- How many packets a message makes, without a division; which is the last; and the orders of the checks.
 -- Assumes nothing.
 use mathlib.Core.Path.{_≡_, refl, ap, sym, _∙_}
-use mathlib.Core.Bool.{true, false}
+use mathlib.Core.Bool.{true, false, not}
 use mathlib.Core.List.{List}
-use mathlib.Core.Logic.{by-cases}
+use mathlib.Core.Logic.{_⊎_, inl, inr, by-cases}
 use Prim.Native.Nat.{ℕ, _+_, _-_, _*_, _≤_, _<_}
 use native.Mathlib.Decide.{decLe}
 use native.Mathlib.Nat.{suc-mul, le-mul-of-pos-right, le-div-iff-mul-le}
@@ -12,6 +12,8 @@ use borrow.Author.Tests.{eq-eqb, ne-eqb, le-leb, lt-leb, lt-ltb, le-ltb}
 use lib.Dec.{eqb, leb, ltb}
 use Rattle.octets.specs.Checks.{Check}
 use Rattle.octets.proofs.Checks.{FailsAt, Hold, answerAt, first-failing, none-failing, all-hold, tests}
+use Rattle.octets.proofs.Choice.{within-below, within-above}
+use Rattle.mctp.specs.Eid.{reservedEid}
 use Rattle.mctp.specs.Packet.{bodyRight}
 use Rattle.sender.specs.declared.heading.Heading.{Heading}
 use Rattle.sender.specs.Cutting.{packetsIn, headingRight, messageRight, cutOrder, cutRefusal}
@@ -105,3 +107,21 @@ module _ (most : ℕ) (heading : Heading) (size k : ℕ) where
     (λ h. none-refused (body, (numbers, (sized, (lt-ltb k (packetsIn most size) h, tt))))),
     (λ h. refused-at 3 (body, (numbers, (sized, le-ltb k (packetsIn most size) h)))),
   )
+
+-- every number of its range is right
+not-reserved : (e : ℕ) → (e ≡ 0) ⊎ (8 ≤ e) → not (reservedEid e) ≡ true
+not-reserved e (inl z) = ap not (within-below 1 7 e (omega arith))
+not-reserved e (inr h) = ap not (within-above 1 7 e (omega arith))
+
+pub in-range : (heading : Heading) → let d = heading .key .destination .0 in let s = heading .key .source .0 in
+    (d ≡ 0) ⊎ (8 ≤ d) → (s ≡ 0) ⊎ (8 ≤ s) → s ≤ 254 → heading .key .tag ≤ 7 → heading .first ≤ 3
+    → headingRight heading ≡ true
+in-range heading d s below tag first =
+    let other : (heading .key .source .0 ≡ 255) → ⊥ = λ e. omega arith in
+    rw (
+      not-reserved (heading .key .destination .0) d,
+      not-reserved (heading .key .source .0) s,
+      ne-eqb (heading .key .source .0) 255 other,
+      le-leb (heading .key .tag) 7 tag,
+      le-leb (heading .first) 3 first,
+    )

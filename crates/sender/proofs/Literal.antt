@@ -23,7 +23,7 @@ use Rattle.sender.specs.Cutting.{packetsIn, packetHeader, packetAt, head
 use Rattle.sender.specs.Cutting.{cutRefusal}
 use Rattle.sender.specs.Sending.{outputRefusal, outputSize, outputWritten, smbusSize, smbusWritten, pccWritten}
 use Rattle.sender.specs.Sending.{ringEntered, ringWritten}
-use Rattle.sender.specs.Whole.{along, allPackets}
+use Rattle.sender.specs.Whole.{along, allPackets, allBodies}
 
 -- a heading by its five numbers
 abbrev pub headed : (destination source : ℕ) (owner : Bool) (tag first : ℕ) → Heading
@@ -53,6 +53,10 @@ pub of-130 : allPackets 64 answering message130
     ∷ []
 unfolding along packetAt packetHeader headerBytes flagsFor
 of-130 = refl
+
+pub bodies-of-130 : allBodies 64 message130 ≡ replicate 64 1 ∷ replicate 64 2 ∷ (3 ∷ 3 ∷ []) ∷ []
+unfolding along
+bodies-of-130 = refl
 
 -- a length that is a multiple of 64: the last body is full, and none is empty. A broadcast from a sender without an
 -- EID, which doesn't own the tag: 92 is 1001 0010, 62 is 0110 0010
@@ -128,14 +132,19 @@ pub in-a-region : (pccWritten 64 alone (0 ∷ []) 0 (replicate 84 0xFF) 3 true �
 unfolding pccWritten cutRefusal packetAt packetHeader headerBytes flagsFor
 in-a-region = (literal-written, literal-quiet)
 
--- in a ring of bytes EE, with packets from byte 100 on before it: from byte 120 on, over the end; and not while a reset
--- is asked
+-- in a ring of bytes EE, with packets from byte 100 on before it: from byte 120 on, over the end
 abbrev behind : Pointers
 behind = record { read = 100; write = 120 }
 
 pub in-a-ring : (ringEntered 64 alone (0 ∷ []) 0 128 128 normalRuntime behind ≡ entered 4)
     × (ringWritten 64 alone (0 ∷ []) 0 (replicate 128 238) 128 normalRuntime behind ≡ written)
+unfolding ringEntered ringWritten cutRefusal packetAt packetHeader headerBytes flagsFor stateOf enteredOf filledOf
+    roomOf nextOf roundFrom stored fronted ringBytes headerFor wordBytes
+in-a-ring = (refl, refl)
+
+-- and not into one of another length than was configured, while a reset is asked, or where there is no room
+pub not-in-a-ring : (ringEntered 64 alone (0 ∷ []) 0 128 132 normalRuntime behind ≡ refused 1)
     × (ringEntered 64 alone (0 ∷ []) 0 128 128 askedByHost behind ≡ refused 11)
-unfolding ringEntered ringWritten cutRefusal packetAt packetHeader headerBytes flagsFor stateOf enteredOf filledOf roomOf
-    nextOf roundFrom stored fronted ringBytes headerFor wordBytes
-in-a-ring = (refl, refl, refl)
+    × (ringEntered 64 alone (0 ∷ []) 0 128 128 normalRuntime (record { read = 4; write = 0 }) ≡ refused 2)
+unfolding ringEntered cutRefusal packetAt packetHeader headerBytes flagsFor stateOf enteredOf filledOf roomOf
+not-in-a-ring = (refl, refl, refl)

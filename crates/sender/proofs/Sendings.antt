@@ -25,8 +25,8 @@ use Rattle.mmbi.specs.declared.interface.Flags.{Flags}
 use Rattle.mmbi.specs.declared.pointer.Pointers.{Pointers}
 use Rattle.mmbi.specs.Interface.{stateOf, mayWrite}
 use Rattle.ring.specs.Writing as rings
-use Rattle.sender.specs.declared.cutting.Piece.{Piece}
-use Rattle.sender.specs.declared.cutting.Piece.the-variants.{There}
+use Rattle.sender.specs.declared.cutting.Outline.{Outline}
+use Rattle.sender.specs.declared.cutting.Outline.the-variants.{There}
 use Rattle.sender.specs.declared.heading.Heading.{Heading}
 use Rattle.sender.specs.Cutting.{packetAt, cutRefusal}
 use Rattle.sender.specs.Answers.{numberIn, bytesIn}
@@ -34,8 +34,8 @@ use Rattle.sender.specs.Sending.{ifCut, cutNumber, outputRefusal, output
 use Rattle.sender.specs.Sending.{smbusRefusal, smbusSize, smbusWritten}
 use Rattle.sender.specs.Sending.{pccRefusal, pccWritten, ringEntered, ringWritten}
 
--- a piece that is there: packet k is its header's bytes and its part of the message
-pub told-there : (most : ℕ) (heading : Heading) (message : List ℕ) (k : ℕ) (r : Piece)
+-- an outline of a packet that is there: packet k is its header's bytes and its part of the message
+pub told-there : (most : ℕ) (heading : Heading) (message : List ℕ) (k : ℕ) (r : Outline)
     → (numberIn r ≡ cutRefusal most heading (length message) k)
     × ((other : List ℕ) → length other ≡ length message → numberIn r ≡ 0
     → bytesIn most other r ≡ packetAt most heading other k)

@@ -1,4 +1,4 @@
--- What the sender's answers say, and a piece of a message: the number, and the value that goes with it.
+-- What the sender's answers say, and the outline of a packet: the number, and the value that goes with it.
 -- Assumes nothing.
 use Prim.Native.Nat.{ℕ}
 use mathlib.Core.List.{List, [], _++_}
@@ -7,8 +7,8 @@ use Rattle.mctp.specs.Key.{headerBytes}
 use Rattle.mctp.specs.Refusals.{numberOf}
 use Rattle.sender.specs.declared.answer.Counted.{Counted}
 use Rattle.sender.specs.declared.answer.Counted.the-variants as counted
-use Rattle.sender.specs.declared.cutting.Piece.{Piece}
-use Rattle.sender.specs.declared.cutting.Piece.the-variants as piece
+use Rattle.sender.specs.declared.cutting.Outline.{Outline}
+use Rattle.sender.specs.declared.cutting.Outline.the-variants as outline
 use Rattle.sender.specs.declared.answer.Cut.{Cut}
 use Rattle.sender.specs.declared.answer.Cut.the-variants as cut
 
@@ -23,14 +23,14 @@ packetsCounted (counted.Packets packets) = packets
 packetsCounted (counted.Refused why) = 0
 
 -- the refusal number, 0 where the packet is there
-abbrev pub numberIn : Piece → ℕ
-numberIn (piece.There header from) = 0
-numberIn (piece.Refused why) = numberOf why
+abbrev pub numberIn : Outline → ℕ
+numberIn (outline.There header from) = 0
+numberIn (outline.Refused why) = numberOf why
 
 -- the packet's bytes, its body a part of the message; none where refused
-abbrev pub bytesIn : (most : ℕ) (message : List ℕ) → Piece → List ℕ
-bytesIn most message (piece.There header from) = headerBytes header ++ part message from most
-bytesIn most message (piece.Refused why) = []
+abbrev pub bytesIn : (most : ℕ) (message : List ℕ) → Outline → List ℕ
+bytesIn most message (outline.There header from) = headerBytes header ++ part message from most
+bytesIn most message (outline.Refused why) = []
 
 -- the refusal number, 0 where cut
 abbrev pub numberCut : Cut → ℕ

@@ -42,23 +42,23 @@ fn message_right(size: usize) -> bool
 }
 
 // Packet k before it goes anywhere: its header, and where in the message its body begins; or the refusal.
-pub enum Piece {
+pub enum Outline {
     There { header: Header, from: usize },
     Refused(Refusal),
 }
 
 // Packet k of a message of this size: all that is refused before it goes anywhere is refused here.
-pub fn cut(most: usize, heading: Heading, size: usize, k: usize) -> Piece
+pub fn cut(most: usize, heading: Heading, size: usize, k: usize) -> Outline
     ensures number { λ r. ⌜ numberIn r ≡ cutRefusal most heading size k ⌝ }
     ensures packet { λ r. ⌜ ((message : List ℕ) → length message ≡ size → numberIn r ≡ 0
         → bytesIn most message r ≡ packetAt most heading message k) ⌝ }
 {
     match may_cut(most, heading, size, k) {
-        Outcome::Good => Piece::There {
+        Outcome::Good => Outline::There {
             header: packet_header(most, heading, size, k),
             from: k * most,
         },
-        Outcome::Refused(why) => Piece::Refused(why),
+        Outcome::Refused(why) => Outline::Refused(why),
     }
 }
 

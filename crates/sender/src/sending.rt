@@ -2,7 +2,7 @@
 // message, and both go where they are to stand. Each call takes what the carrier's writer takes, with the message, its
 // heading and k in the packet's place.
 use crate::answer::Cut;
-use crate::cutting::Piece;
+use crate::cutting::Outline;
 use crate::cutting::cut;
 use crate::heading::Heading;
 use mctp::LARGEST_BODY;
@@ -99,7 +99,7 @@ fn output_within(most: usize, out: &mut [u8], message: &[u8], heading: Heading, 
     ensures output { λ _. ⌜ now (out .exit) ≡ outputWritten most heading (now (message .entry)) k (now (out .entry)) ⌝ }
 {
     match cut(most, heading, message.len(), k) {
-        Piece::There { header, from } => {
+        Outline::There { header, from } => {
             let front = mctp::header_bytes(header);
             let body = octets::part(message, from, most);
             let size = 4 + body.len();
@@ -110,7 +110,7 @@ fn output_within(most: usize, out: &mut [u8], message: &[u8], heading: Heading, 
             octets::lay(out, 4, body);
             Cut::Packet(size)
         }
-        Piece::Refused(why) => Cut::Refused(why),
+        Outline::Refused(why) => Cut::Refused(why),
     }
 }
 
@@ -131,12 +131,12 @@ fn smbus_within(
         (now (out .entry)) destination source ⌝ }
 {
     match cut(most, heading, message.len(), k) {
-        Piece::There { header, from } => {
+        Outline::There { header, from } => {
             let front = mctp::header_bytes(header);
             let body = octets::part(message, from, most);
             smbus::write_apart(most, out, &front, body, destination, source)
         }
-        Piece::Refused(why) => smbus::Written::Refused(why),
+        Outline::Refused(why) => smbus::Written::Refused(why),
     }
 }
 
@@ -155,12 +155,12 @@ fn pcc_within(
         ≡ pccWritten most heading (now (message .entry)) k (now (region .entry)) id notify ⌝ }
 {
     match cut(most, heading, message.len(), k) {
-        Piece::There { header, from } => {
+        Outline::There { header, from } => {
             let front = mctp::header_bytes(header);
             let body = octets::part(message, from, most);
             pcc::write_apart(most, region, id, notify, &front, body)
         }
-        Piece::Refused(why) => pcc::Written::Refused(why),
+        Outline::Refused(why) => pcc::Written::Refused(why),
     }
 }
 
@@ -180,11 +180,11 @@ fn ring_within(
         (now (ring .entry)) configured flags pointers ⌝ }
 {
     match cut(most, heading, message.len(), k) {
-        Piece::There { header, from } => {
+        Outline::There { header, from } => {
             let front = mctp::header_bytes(header);
             let body = octets::part(message, from, most);
             ring::write_apart(most, ring, configured, flags, pointers, &front, body)
         }
-        Piece::Refused(why) => ring::Written::Refused(why),
+        Outline::Refused(why) => ring::Written::Refused(why),
     }
 }
