@@ -13,7 +13,7 @@ use borrow.Author.Tests.{ltb-true, ltb-false, leb-true, eqb-true}
 use lib.Dec.{ltb}
 use lib.ListN.{length, length-drop, List·getD-eq-default}
 use Rattle.octets.specs.Choice.{within}
-use Rattle.octets.proofs.Choice.{pick-elim, within-bounds}
+use Rattle.octets.proofs.Choice.{pick-elim, either-way, within-bounds}
 use Rattle.octets.proofs.Checks.{every-answer}
 use Rattle.mctp.specs.declared.packet.Key.{Key}
 use Rattle.mctp.specs.declared.packet.Header.{Header}
@@ -48,11 +48,15 @@ pub record Fits (most : ℕ) (r : Receiver) (p : List ℕ) (i at : ℕ) (then : 
   pub right : rightSlot most (r .setup) then ≡ true
   pub alone : (j : ℕ) → j < 4 → (i ≡ j → ⊥) → clash then (slotAt (r .slots) j) ≡ false
 
+-- the numbers that free no slot: 1, 2, 3 and 15 to 19
+abbrev pub freesNone : ℕ → Bool
+freesNone n = within 1 3 n || within 15 19 n
+
 -- What holds in these three cases holds of the decision on any packet in any state (`every-decision`, below): every
--- refusal with a number up to 19, every release with 20 to 22 of the slot that has the packet's key, every body put
+-- refusal with one of these numbers, every release with 20 to 22 of the slot that has the packet's key, every body put
 -- where it fits.
 pub record Cases (most : ℕ) (r : Receiver) (size : ℕ) (p : List ℕ) (P : Decision → Type 0) : Type 0 where
-  pub refuses : (n : ℕ) → within 1 19 n ≡ true → P (refuse n)
+  pub refuses : (n : ℕ) → freesNone n ≡ true → P (refuse n)
   pub releases : rightState most r ≡ true → (i n : ℕ) → i < 4 → within 20 22 n ≡ true
       → hasKey (keyOf p) (slotAt (r .slots) i) ≡ true
       → P (release i n)
@@ -241,12 +245,19 @@ Possible p (refuse n) = (1 ≤ n) × (n ≤ 19)
 Possible p (release slot n) = (slot < 4) × ((20 ≤ n) × (n ≤ 22))
 Possible p (put slot at again then) = (slot < 4) × (4 < length p) × (at + length (bodyOf p) ≤ 1024)
 
+pub frees-none-bounds : (n : ℕ) → freesNone n ≡ true → (1 ≤ n) × (n ≤ 19)
+frees-none-bounds n e =
+    either-way (within 1 3 n)
+    (λ low. let h = within-bounds 1 3 n low in (h .0, omega (arith, h .1)))
+    (λ high. let h = within-bounds 15 19 n (ap (λ (b : Bool). b || within 15 19 n) (sym high) ∙ e) in
+    (omega (arith, h .0), h .1))
+
 -- every decision can be carried out
 pub decision-possible : (most : ℕ) (r : Receiver) (size : ℕ) (p : List ℕ) → Possible p (decided most r size p)
 decision-possible most r size p =
     every-decision most r size p (Possible p)
     (record {
-      refuses = λ n b. within-bounds 1 19 n b;
+      refuses = frees-none-bounds;
       releases = λ e i n h b k. (h, within-bounds 20 22 n b);
       puts = λ e s i at again then f. (f .slot, omega (arith, f .size), f .place);
     })

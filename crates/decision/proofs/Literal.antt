@@ -10,6 +10,7 @@ use Rattle.slots.specs.declared.state.Receiver.{Receiver}
 use Rattle.slots.specs.declared.state.SlotState.the-variants.{Free, Gathering}
 use Rattle.slots.specs.Slots.{firstOf, slotOf, lowestFree}
 use Rattle.slots.specs.State.{multiple, rightNumbers, rightSlot, clash, rightState}
+use Rattle.slots.specs.Tallies.{sumOf}
 use Rattle.slots.specs.Changes.{freeSlot, fresh}
 use Rattle.slots.proofs.Literal.{with-slots, card, key, slot, gathering}
 use Rattle.decision.specs.Rules.{Decision, refuse, release, put, after, onStart, gathered, onFollow, ruled}
@@ -97,6 +98,7 @@ pub record Literals : Type 0 where
 pub literals : Literals
 unfolding decided ruled onStart onFollow gathered after
     slotOf lowestFree firstOf headerOf keyOf sameKey rightState rightSlot rightNumbers multiple clash
+    sumOf
 literals =
     record {
       order = refl;

@@ -18,17 +18,18 @@ use Rattle.slots.specs.declared.state.Receiver.{Receiver}
 use Rattle.slots.specs.declared.state.Slot.{Slot}
 use Rattle.slots.specs.Slots.{slotAt, hasKey, slotOf, lowestFree}
 use Rattle.slots.specs.State.{rightState}
-use Rattle.slots.specs.Changes.{withState}
-use Rattle.slots.proofs.States.{right-of, slot-same}
+use Rattle.slots.specs.Changes.{withState, withOffered, withDone}
+use Rattle.slots.proofs.Slots.{slot-same}
+use Rattle.slots.proofs.States.{right-of}
 use Rattle.slots.proofs.Found.{slot-of-is, lowest-found}
 use Rattle.octets.specs.Bytes.{laid}
 use Rattle.octets.proofs.Choice.{pick-elim}
 use Rattle.receiver.specs.Step.{Said, done, Left, stepOf}
-use Rattle.receiver.proofs.Laws.{one-slot}
+use Rattle.receiver.proofs.Laws.{step-setup}
 use Rattle.messages.specs.Run.{Call, give, free, rules, message, messagesOf, Ran, called, joined, run}
 use Rattle.messages.specs.Message.{Item, packet, between, callsOf, bodiesOf, lastOf, packetReplies, heldReplies}
 use Rattle.messages.specs.Message.{slotFor, Starts, Follows, Middles, OneMessage, Accepted, AcceptedAlone}
-use Rattle.messages.proofs.Runs.{run-append, called-one-slot}
+use Rattle.messages.proofs.Runs.{run-append, called-setup}
 use Rattle.messages.proofs.Gathering.{Gathers, middle-step, middle-gathers, end-step, end-message}
 use Rattle.messages.proofs.Gathering.{between-gathers, start-held, start-done, start-message, start-gathers}
 
@@ -38,7 +39,7 @@ pub run-setup : (most : ℕ) (r : Receiver) (m : List ℕ) (calls : List Call)
 unfolding run
 run-setup most r m [] = refl
 run-setup most r m (c ∷ calls) =
-    run-setup most (called most r m c .receiver) (called most r m c .memory) calls ∙ called-one-slot most r m c .setup
+    run-setup most (called most r m c .receiver) (called most r m c .memory) calls ∙ called-setup most r m c
 
 module _ (most : ℕ) (k : Key) (i unit : ℕ) where
   -- middles, with what stands between: the bytes grow by the bodies, in order
@@ -109,14 +110,14 @@ module _ (most : ℕ) (r : Receiver) (m first : List ℕ) (items : List Item) (f
   follows : Follows most (middle .receiver .setup) (keyOf first) (lastOf (sequenceOf first) items)
       (length (bodyOf first)) (length (bodyOf first ++ bodiesOf items)) final
   follows =
-      let same = run-setup most (begun .receiver) (begun .memory) (callsOf items) ∙ one-slot most r m first .setup in
+      let same = run-setup most (begun .receiver) (begun .memory) (callsOf items) ∙ step-setup most r m first in
       subst (λ (s : Setup). Follows most s (keyOf first) (lastOf (sequenceOf first) items) (length (bodyOf first))
       (length (bodyOf first ++ bodiesOf items)) final) (sym same) (T .follows)
 
   last-step : ended
       ≡ record {
         said = done i (length (bodyOf first ++ bodiesOf items) + length (bodyOf final)) false;
-        receiver = withState (middle .receiver) i Free;
+        receiver = withDone (withState (withOffered (middle .receiver)) i Free);
         memory = laid (middle .memory) (1024 * i + length (bodyOf first ++ bodiesOf items)) (bodyOf final);
       }
   last-step = end-step most (middle .receiver) (middle .memory) (keyOf first) i _ _ _ gathered final follows (T .ends)

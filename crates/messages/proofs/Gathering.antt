@@ -26,17 +26,18 @@ use Rattle.slots.specs.declared.state.SlotState.the-variants.{Free, Gathering}
 use Rattle.slots.specs.declared.state.Receiver.{Receiver}
 use Rattle.slots.specs.Slots.{slotAt, isFree, hasKey, slotOf, lowestFree}
 use Rattle.slots.specs.State.{rightSlot, rightState}
-use Rattle.slots.specs.Changes.{withState}
-use Rattle.slots.proofs.States.{right-of, most-bounds, slot-same, slot-other}
+use Rattle.slots.specs.Changes.{withState, withOffered, withDone}
+use Rattle.slots.proofs.Slots.{slot-same, slot-other}
+use Rattle.slots.proofs.States.{right-of, most-bounds}
 use Rattle.slots.proofs.Found.{holds-key, slot-of-is}
 use Rattle.slots.proofs.Numbers.{gathering-of}
 use Rattle.decision.specs.Checks.{packetOrder, sourceOrder}
-use Rattle.decision.specs.Rules.{put, refuse, after, onStart, gathered, follow, onFollow, ruled}
+use Rattle.decision.specs.Rules.{Decision, put, refuse, after, onStart, gathered, follow, onFollow, ruled}
 use Rattle.decision.specs.Decision.{checkOrder, decided}
 use Rattle.decision.proofs.Ruled.{ruled-start, ruled-follow}
 use Rattle.decision.proofs.Decided.{every-decision}
-use Rattle.receiver.specs.Step.{refused, held, done, Left, carriedOut, stepOf}
-use Rattle.receiver.proofs.Laws.{step-right, one-slot, refused-unchanged}
+use Rattle.receiver.specs.Step.{refused, held, done, Left, carriedOut, afterOffer, stepOf}
+use Rattle.receiver.proofs.Laws.{offer-slots, put-fields, step-right, step-size, refused-keeps}
 use Rattle.messages.specs.Run.{Call, give, free, message, called}
 use Rattle.messages.specs.Message.{Starts, Follows, Harmless, slotFor}
 use Rattle.messages.proofs.Runs.{freed-others, called-right, called-size, slot-apart}
@@ -110,26 +111,26 @@ module _ (most : ℕ) (r : Receiver) (m : List ℕ) (k : Key) (i last unit : ℕ
   pub middle-step : endOf p ≡ false → stepOf most r m p
       ≡ record {
         said = held i total false;
-        receiver = withState r i (Gathering k (sequenceOf p) unit total);
+        receiver = withState (withOffered r) i (Gathering k (sequenceOf p) unit total);
         memory = laid m (1024 * i + length sofar) (bodyOf p);
       }
   unfolding stepOf
   middle-step e =
       let then = after-middle p unit total e
       ∙ ap (λ (j : Key). Gathering j (sequenceOf p) unit total) (F .key) in
-      ap (carriedOut r m p) (appended ∙ ap (put i (length sofar) false) then)
+      ap (λ (d : Decision). carriedOut (afterOffer r d) m p d) (appended ∙ ap (put i (length sofar) false) then)
 
   -- an end: done, with their total, and the slot is free
   pub end-step : endOf p ≡ true → stepOf most r m p
       ≡ record {
         said = done i total false;
-        receiver = withState r i Free;
+        receiver = withDone (withState (withOffered r) i Free);
         memory = laid m (1024 * i + length sofar) (bodyOf p);
       }
   unfolding stepOf
   end-step e =
-      ap (carriedOut r m p) (appended ∙ ap (put i (length sofar) false)
-      (after-end p unit total e))
+      ap (λ (d : Decision). carriedOut (afterOffer r d) m p d)
+      (appended ∙ ap (put i (length sofar) false) (after-end p unit total e))
 
   -- the bytes of the message that is done: the bodies joined, in order
   pub end-message : endOf p ≡ true
@@ -143,7 +144,7 @@ module _ (most : ℕ) (r : Receiver) (m : List ℕ) (k : Key) (i last unit : ℕ
       let joined : length (sofar ++ bodyOf p) ≡ total = length-append sofar (bodyOf p) in
       record {
         right = step-right most r m p (G .right);
-        memory = one-slot most r m p .size ∙ G .memory;
+        memory = step-size most r m p ∙ G .memory;
         slot = G .slot;
         state = ap (λ (l : Left). slotAt (l .receiver .slots) i) (middle-step e)
             ∙ slot-same (r .slots) i _ (omega (arith, G .slot, right-of most r (G .right) .four))
@@ -179,13 +180,14 @@ module _ (most : ℕ) (r : Receiver) (m : List ℕ) (k : Key) (i last unit : ℕ
       (λ (n : ℕ). isFree (slotAt (r .slots) n) || hasKey (keyOf p) (slotAt (r .slots) n)) (sym s)
       ∙ ap (λ (x : SlotState). isFree x || hasKey (keyOf p) x) (G .state) ∙ o) in
       every-decision most r (length m) p
-      (λ d. (slotAt (carriedOut r m p d .receiver .slots) i ≡ slotAt (r .slots) i)
-      × (message (carriedOut r m p d .memory) i (length sofar) ≡ message m i (length sofar)))
+      (λ d. (slotAt (carriedOut (afterOffer r d) m p d .receiver .slots) i ≡ slotAt (r .slots) i)
+      × (message (carriedOut (afterOffer r d) m p d .memory) i (length sofar) ≡ message m i (length sofar)))
       (record {
-        refuses = λ n b. (refl, refl);
+        refuses = λ n b. (ap (λ (l : List Slot). slotAt l i) (offer-slots r (refuse n)), refl);
         releases = λ e j n h b c. (slot-other (r .slots) j i Free (apart j c), refl);
         puts = λ e s j at again then f. (
-          slot-other (r .slots) j i then (taken j (f .taken)),
+          ap (λ (l : List Slot). slotAt l i) (put-fields then (withState (withOffered r) j then) .1)
+              ∙ slot-other (r .slots) j i then (taken j (f .taken)),
           slot-apart most m i j at (bodyOf p) (length sofar) (λ x. taken j (f .taken) (sym x)) (f .place) held-fits,
         );
       })
@@ -195,8 +197,8 @@ module _ (most : ℕ) (r : Receiver) (m : List ℕ) (k : Key) (i last unit : ℕ
       → Leaves (stepOf most r m p .receiver) (stepOf most r m p .memory)
   unfolding Leaves
   early-refused p n high e =
-      let same = refused-unchanged most r m p n e (λ x. omega arith) (λ x. omega arith) (λ x. omega arith) in
-      (ap (λ (l : List Slot). slotAt l i) (same .slots), ap (λ (n : List ℕ). message n i (length sofar)) (same .memory))
+      let same = refused-keeps most r m p n e high in
+      (ap (λ (l : List Slot). slotAt l i) (same .0), ap (λ (n : List ℕ). message n i (length sofar)) (same .1))
 
   leaves : (c : Call) → Harmless most r m k i c → Leaves (called most r m c .receiver) (called most r m c .memory)
   unfolding Leaves
@@ -266,31 +268,31 @@ module _ (most : ℕ) (r : Receiver) (m p : List ℕ) (right : rightState most r
       ≡ record {
         said = held i n again;
         receiver =
-            withState r i
+            withState (withOffered r) i
             (Gathering (keyOf p) (sequenceOf p) n n);
         memory = laid m (1024 * i + 0) (bodyOf p);
       }
   unfolding stepOf
   start-held e =
-      ap (carriedOut r m p) (begun ∙ ap (put i 0 again) (after-middle p n n e))
+      ap (λ (d : Decision). carriedOut (afterOffer r d) m p d) (begun ∙ ap (put i 0 again) (after-middle p n n e))
       ∙ ap (λ (bytes : ℕ). record {
         said = held i bytes again;
-        receiver = withState r i (Gathering (keyOf p) (sequenceOf p) n n);
+        receiver = withState (withOffered r) i (Gathering (keyOf p) (sequenceOf p) n n);
         memory = laid m (1024 * i + 0) (bodyOf p);
       }) (zero-add n)
 
   pub start-done : endOf p ≡ true → stepOf most r m p
       ≡ record {
         said = done i n again;
-        receiver = withState r i Free;
+        receiver = withDone (withState (withOffered r) i Free);
         memory = laid m (1024 * i + 0) (bodyOf p);
       }
   unfolding stepOf
   start-done e =
-      ap (carriedOut r m p) (begun ∙ ap (put i 0 again) (after-end p n n e))
+      ap (λ (d : Decision). carriedOut (afterOffer r d) m p d) (begun ∙ ap (put i 0 again) (after-end p n n e))
       ∙ ap (λ (bytes : ℕ). record {
         said = done i bytes again;
-        receiver = withState r i Free;
+        receiver = withDone (withState (withOffered r) i Free);
         memory = laid m (1024 * i + 0) (bodyOf p);
       }) (zero-add n)
 
@@ -306,7 +308,7 @@ module _ (most : ℕ) (r : Receiver) (m p : List ℕ) (right : rightState most r
   start-gathers e =
       record {
         right = step-right most r m p right;
-        memory = one-slot most r m p .size ∙ size;
+        memory = step-size most r m p ∙ size;
         slot = room;
         state =
             ap (λ (l : Left). slotAt (l .receiver .slots) i) (start-held e)

@@ -6,7 +6,7 @@ use mathlib.Core.Bool.{Bool, true, false, not, _&&_}
 use mathlib.Core.Logic.{by-cases}
 use native.Mathlib.Decide.{decLt}
 use borrow.Author.Tests.{eqb-false, ltb-true, not-true}
-use lib.Dec.{eqb, ltb, lit<}
+use lib.Dec.{eqb, ltb}
 use Rattle.octets.specs.Bytes.{laid}
 use Rattle.octets.proofs.Choice.{pick-elim, both}
 use Rattle.octets.proofs.Laid.{laid-length, laid-before, laid-behind}
@@ -22,11 +22,12 @@ use Rattle.slots.specs.declared.state.Receiver.{Receiver}
 use Rattle.slots.specs.Slots.{slotAt}
 use Rattle.slots.specs.State.{rightState}
 use Rattle.slots.specs.Changes.{withState, freedOf}
-use Rattle.slots.proofs.States.{slot-other}
+use Rattle.slots.proofs.Slots.{slot-other}
 use Rattle.slots.proofs.Changes.{freed-right}
+use Rattle.decision.specs.Decision.{decided}
 use Rattle.decision.proofs.Decided.{every-decision}
-use Rattle.receiver.specs.Step.{Said, refused, held, done, answerOf, carriedOut, stepOf}
-use Rattle.receiver.proofs.Laws.{OneSlot, step-right, one-slot}
+use Rattle.receiver.specs.Step.{Said, refused, held, done, answerOf, carriedOut, afterOffer, stepOf}
+use Rattle.receiver.proofs.Laws.{OneSlot, no-slot, freed-slot, step-right, step-setup, one-slot}
 use Rattle.messages.specs.Run.{Call, give, free, Reply, rules, freed, message, Ran, called, joined, run}
 
 -- an answer that says that a body went into this slot
@@ -58,25 +59,8 @@ freed-one-slot : (most : ℕ) (r : Receiver) (m : List ℕ) (j : ℕ) → OneSlo
 unfolding freedOf
 freed-one-slot most r m j =
     pick-elim (λ (s : Receiver). OneSlot r m s m) (rightState most r && ltb j 4) (withState r j Free) r
-    (λ e.
-    record {
-      slot = j;
-      one-of-four = ltb-true j 4 (both (rightState most r) (ltb j 4) e .1);
-      setup = refl;
-      others = λ i d. slot-other (r .slots) j i Free d;
-      size = refl;
-      bytes-before = λ k h. refl;
-      bytes-behind = λ k h. refl;
-    })
-    (λ e. record {
-      slot = 0;
-      one-of-four = lit< tt;
-      setup = refl;
-      others = λ i d. refl;
-      size = refl;
-      bytes-before = λ k h. refl;
-      bytes-behind = λ k h. refl;
-    })
+    (λ e. freed-slot r m j (ltb-true j 4 (both (rightState most r) (ltb j 4) e .1)))
+    (λ e. no-slot r m)
 
 module _ (most : ℕ) where
   -- no call: nothing
@@ -110,11 +94,21 @@ module _ (most : ℕ) where
       (run most (run most (first .receiver) (first .memory) a .receiver)
       (run most (first .receiver) (first .memory) a .memory) b)
 
+  -- the receiver that a call works on: a packet has been counted, a slot that is freed is none
+  abbrev pub atCall : Receiver → List ℕ → Call → Receiver
+  atCall r m (give p) = afterOffer r (decided most r (length m) p)
+  atCall r m (free j) = r
+
   -- any call changes at most one slot and that slot's 1,024 bytes
   pub called-one-slot : (r : Receiver) (m : List ℕ) (c : Call)
-      → OneSlot r m (called most r m c .receiver) (called most r m c .memory)
+      → OneSlot (atCall r m c) m (called most r m c .receiver) (called most r m c .memory)
   called-one-slot r m (give p) = one-slot most r m p
   called-one-slot r m (free j) = freed-one-slot most r m j
+
+  -- the set-up stays
+  pub called-setup : (r : Receiver) (m : List ℕ) (c : Call) → called most r m c .receiver .setup ≡ r .setup
+  called-setup r m (give p) = step-setup most r m p
+  called-setup r m (free j) = freed-one-slot most r m j .setup
 
   -- a right state stays right under every call
   pub called-right : (r : Receiver) (m : List ℕ) (c : Call) → rightState most r ≡ true
@@ -159,7 +153,8 @@ module _ (most : ℕ) where
   unfolding stepOf
   step-stays r m p i n high e =
       every-decision most r (length m) p
-      (λ d. intoSlot i (carriedOut r m p d .said) ≡ false → message (carriedOut r m p d .memory) i n ≡ message m i n)
+      (λ d. intoSlot i (carriedOut (afterOffer r d) m p d .said) ≡ false
+      → message (carriedOut (afterOffer r d) m p d .memory) i n ≡ message m i n)
       (record {
         refuses = λ k b s. refl;
         releases = λ x j k h b c s. refl;

@@ -6,51 +6,74 @@ use mathlib.Core.List.{List}
 use Prim.Native.Nat.{ℕ, _+_, _*_, _≤_, _<_}
 use native.Mathlib.Omega.{arith}
 use contract.Lifetimes.{Lfts}
-use lib.Dec.{lit<}
+use borrow.Author.Tests.{le-ltb, lt-ltb}
+use lib.Dec.{ltb, lit<}
 use lib.ListN.{length, getD}
-use Rattle.octets.proofs.Choice.{within-bounds}
+use Rattle.octets.specs.Choice.{pick}
+use Rattle.octets.proofs.Choice.{pick-elim, within-bounds}
 use Rattle.octets.proofs.Laid.{laid-length, laid-before, laid-behind}
 use Rattle.mctp.specs.Packet.{bodyOf}
 use Rattle.mctp.specs.Key.{keyOf}
+use Rattle.slots.specs.declared.state.Slot.{Slot}
 use Rattle.slots.specs.declared.state.SlotState.{SlotState}
 use Rattle.slots.specs.declared.state.SlotState.the-variants.{Free, Gathering}
 use Rattle.slots.specs.declared.state.Receiver.{Receiver}
 use Rattle.slots.specs.Slots.{slotAt}
 use Rattle.slots.specs.State.{rightState}
-use Rattle.slots.specs.Changes.{withState}
-use Rattle.slots.proofs.States.{right-of, right-holds, with-right, slot-other}
-use Rattle.slots.proofs.Changes.{free-right}
-use Rattle.decision.specs.Rules.{planned}
+use Rattle.slots.specs.Changes.{withState, withOffered}
+use Rattle.slots.proofs.Slots.{slot-other}
+use Rattle.slots.proofs.States.{right-of, right-holds, with-right}
+use Rattle.slots.proofs.Changes.{free-right, offered-right, done-right}
+use Rattle.decision.specs.Rules.{Decision, refuse, planned}
 use Rattle.decision.specs.Decision.{decided}
-use Rattle.decision.proofs.Decided.{every-decision}
+use Rattle.decision.proofs.Decided.{every-decision, frees-none-bounds}
 use Rattle.decision.proofs.decide.Reads as decide
 use Rattle.receiver.specs.Effects.{Unchanged, SlotFreed}
-use Rattle.receiver.specs.Step.{refused, answerOf, carriedOut, stepOf}
+use Rattle.receiver.specs.Step.{refused, answerOf, afterPut, carriedOut, offers, afterOffer, stepOf}
 
--- giving a packet is the decision carried out
+-- giving a packet is the decision carried out, on the receiver that has counted it
 pub step-is-decision : (most : ℕ) (r : Receiver) (m p : List ℕ)
-    → stepOf most r m p ≡ carriedOut r m p (decided most r (length m) p)
+    → stepOf most r m p
+    ≡ carriedOut (afterOffer r (decided most r (length m) p)) m p (decided most r (length m) p)
 unfolding stepOf
 step-is-decision most r m p = refl
 
 -- and so it is with any plan that the contract of `decide` allows
 pub step-is-plan : (κs : Lfts 1) (a plan e : _) → decide.Post κs a plan e → (m : List ℕ) → length m ≡ a .1 .0
-    → stepOf 64 (a .0) m (a .1 .1 .0 .now) ≡ carriedOut (a .0) m (a .1 .1 .0 .now) (planned plan)
+    → stepOf 64 (a .0) m (a .1 .1 .0 .now)
+    ≡ carriedOut (afterOffer (a .0) (planned plan)) m (a .1 .1 .0 .now) (planned plan)
 step-is-plan κs a plan e p m n =
     step-is-decision 64 (a .0) m (a .1 .1 .0 .now)
-    ∙ ap (carriedOut (a .0) m (a .1 .1 .0 .now)) (ap (λ (k : ℕ). decided 64 (a .0) k (a .1 .1 .0 .now)) n ∙ sym p)
+    ∙ ap (λ (d : Decision). carriedOut (afterOffer (a .0) d) m (a .1 .1 .0 .now) d)
+    (ap (λ (k : ℕ). decided 64 (a .0) k (a .1 .1 .0 .now)) n ∙ sym p)
+
+-- a packet that is counted leaves set-up and slots, and a right state right
+pub offer-setup : (r : Receiver) (d : Decision) → afterOffer r d .setup ≡ r .setup
+offer-setup r d = pick-elim (λ (q : Receiver). q .setup ≡ r .setup) (offers d) (withOffered r) r (λ e. refl) (λ e. refl)
+
+pub offer-slots : (r : Receiver) (d : Decision) → afterOffer r d .slots ≡ r .slots
+offer-slots r d = pick-elim (λ (q : Receiver). q .slots ≡ r .slots) (offers d) (withOffered r) r (λ e. refl) (λ e. refl)
+
+put-right : (most : ℕ) (then : SlotState) (r : Receiver) → rightState most r ≡ true
+    → rightState most (afterPut then r) ≡ true
+put-right most Free r e = done-right most r e
+put-right most (Gathering k q u h) r e = e
 
 -- a right state stays right
 pub step-right : (most : ℕ) (r : Receiver) (m p : List ℕ) → rightState most r ≡ true
     → rightState most (stepOf most r m p .receiver) ≡ true
 unfolding stepOf
 step-right most r m p e =
-    every-decision most r (length m) p (λ d. rightState most (carriedOut r m p d .receiver) ≡ true)
+    let counted = offered-right most r e in
+    every-decision most r (length m) p (λ d. rightState most (carriedOut (afterOffer r d) m p d .receiver) ≡ true)
     (record {
-      refuses = λ n b. e;
-      releases = λ e i n h b k. free-right most r i h e;
-      puts = λ e s i at again then f. right-holds most (withState r i then)
-          (with-right most r (right-of most r e) i then (f .slot) (f .right) (f .alone));
+      refuses = λ n b. pick-elim (λ (q : Receiver). rightState most q ≡ true) (ltb 2 n) (withOffered r) r
+          (λ c. counted) (λ c. e);
+      releases = λ x i n h b k. free-right most (withOffered r) i h counted;
+      puts = λ x s i at again then f. put-right most then (withState (withOffered r) i then)
+          (right-holds most (withState (withOffered r) i then)
+          (with-right most (withOffered r) (right-of most (withOffered r) counted) i then (f .slot) (f .right)
+          (f .alone)));
     })
 
 -- a body that is put is not refused
@@ -62,96 +85,148 @@ put-answers (Gathering k q u h) i b again n s =
     let z : _≡_ {A = ℕ} 0 1 = cc in
     omega arith
 
--- refused with anything but 20, 21, 22: receiver and memory unchanged
-pub refused-unchanged : (most : ℕ) (r : Receiver) (m p : List ℕ) (n : ℕ) → stepOf most r m p .said ≡ refused n
-    → (n ≡ 20 → ⊥) → (n ≡ 21 → ⊥) → (n ≡ 22 → ⊥)
-    → Unchanged r m (stepOf most r m p .receiver) (stepOf most r m p .memory)
-unfolding stepOf
-refused-unchanged most r m p n e n20 n21 n22 =
-    every-decision most r (length m) p
-    (λ d. carriedOut r m p d .said ≡ refused n
-    → Unchanged r m (carriedOut r m p d .receiver) (carriedOut r m p d .memory))
-    (record {
-      refuses = λ k b s. record { setup = refl; slots = refl; memory = refl };
-      releases = λ x i k h b c s.
-          let same : k ≡ n = cc in
-          absurd (none k same (within-bounds 20 22 k b));
-      puts = λ x y i at again then f s. absurd (put-answers then i (at + length (bodyOf p)) again n s);
-    })
-    e
-  where
-    none : (k : ℕ) → k ≡ n → (20 ≤ k) × (k ≤ 22) → ⊥
-    none k same b = omega arith
+module _ (most : ℕ) (r : Receiver) (m p : List ℕ) (n : ℕ) (e : stepOf most r m p .said ≡ refused n) where
+  -- refused with anything but 20, 21, 22: the memory is unchanged, and so is the receiver, once it has counted
+  refused-leaves : n ≤ 19
+      → Unchanged (pick (ltb 2 n) (withOffered r) r) m (stepOf most r m p .receiver) (stepOf most r m p .memory)
+  unfolding stepOf
+  refused-leaves high =
+      every-decision most r (length m) p
+      (λ d. carriedOut (afterOffer r d) m p d .said ≡ refused n
+      → Unchanged (pick (ltb 2 n) (withOffered r) r) m (carriedOut (afterOffer r d) m p d .receiver)
+      (carriedOut (afterOffer r d) m p d .memory))
+      (record {
+        refuses = λ k b s.
+            let same : k ≡ n = cc in
+            record { receiver = ap (λ (j : ℕ). pick (ltb 2 j) (withOffered r) r) same; memory = refl };
+        releases = λ x i k h b c s.
+            let same : k ≡ n = cc in
+            absurd (none k same (within-bounds 20 22 k b .0));
+        puts = λ x y i at again then f s. absurd (put-answers then i (at + length (bodyOf p)) again n s);
+      })
+      e
+    where
+      none : (k : ℕ) → k ≡ n → 20 ≤ k → ⊥
+      none k same b = omega arith
 
--- refused with 20, 21, 22: exactly the slot that has the packet's key becomes free, memory unchanged
-pub refused-freed : (most : ℕ) (r : Receiver) (m p : List ℕ) (n : ℕ) → stepOf most r m p .said ≡ refused n → 20 ≤ n
-    → SlotFreed (keyOf p) r m (stepOf most r m p .receiver) (stepOf most r m p .memory)
-unfolding stepOf
-refused-freed most r m p n e twenty =
-    every-decision most r (length m) p
-    (λ d. carriedOut r m p d .said ≡ refused n
-    → SlotFreed (keyOf p) r m (carriedOut r m p d .receiver) (carriedOut r m p d .memory))
-    (record {
-      refuses = λ k b s.
-          let same : k ≡ n = cc in
-          absurd (none k same (within-bounds 1 19 k b .1));
-      releases = λ x i k h b c s. record {
-        slot = i;
-        one-of-four = h;
-        has-the-key = c;
-        setup = refl;
-        slots = refl;
-        memory = refl;
-      };
-      puts = λ x y i at again then f s. absurd (put-answers then i (at + length (bodyOf p)) again n s);
-    })
-    e
-  where
-    none : (k : ℕ) → k ≡ n → k ≤ 19 → ⊥
-    none k same high = omega arith
+  -- slots and memory stay
+  pub refused-keeps : n ≤ 19 → (stepOf most r m p .receiver .slots ≡ r .slots) × (stepOf most r m p .memory ≡ m)
+  refused-keeps high =
+      let same = refused-leaves high in
+      (ap (λ (q : Receiver). q .slots) (same .receiver) ∙ offer-slots r (refuse n), same .memory)
 
--- from receiver r and memory m to r₂ and m₂: at most one slot changes, and that slot's 1,024 bytes
+  -- "1 and 2 count nothing": all unchanged
+  pub refused-uncounted : n ≤ 2 → Unchanged r m (stepOf most r m p .receiver) (stepOf most r m p .memory)
+  refused-uncounted low = rw (le-ltb 2 n low) at (refused-leaves (omega arith))
+
+  -- "A packet refused with 3 or 15 to 22 counts as offered, and that tally is then the one further change to the
+  -- receiver": with 3 and 15 to 19, the one change
+  pub refused-counted : 3 ≤ n → n ≤ 19
+      → Unchanged (withOffered r) m (stepOf most r m p .receiver) (stepOf most r m p .memory)
+  refused-counted low high = rw (lt-ltb 2 n low) at (refused-leaves high)
+
+  -- refused with 20, 21, 22: the slot that has the packet's key becomes free too, memory unchanged
+  pub refused-freed : 20 ≤ n
+      → SlotFreed (keyOf p) (withOffered r) m (stepOf most r m p .receiver) (stepOf most r m p .memory)
+  unfolding stepOf
+  refused-freed twenty =
+      every-decision most r (length m) p
+      (λ d. carriedOut (afterOffer r d) m p d .said ≡ refused n
+      → SlotFreed (keyOf p) (withOffered r) m (carriedOut (afterOffer r d) m p d .receiver)
+      (carriedOut (afterOffer r d) m p d .memory))
+      (record {
+        refuses = λ k b s.
+            let same : k ≡ n = cc in
+            absurd (none k same (frees-none-bounds k b .1));
+        releases = λ x i k h b c s. record {
+          slot = i;
+          one-of-four = h;
+          has-the-key = c;
+          receiver = refl;
+          memory = refl;
+        };
+        puts = λ x y i at again then f s. absurd (put-answers then i (at + length (bodyOf p)) again n s);
+      })
+      e
+    where
+      none : (k : ℕ) → k ≡ n → k ≤ 19 → ⊥
+      none k same high = omega arith
+
+-- from receiver r and memory m to r₂ and m₂: at most one slot changes, and that slot's 1,024 bytes; the packets offered
+-- stay
 pub record OneSlot (r : Receiver) (m : List ℕ) (r₂ : Receiver) (m₂ : List ℕ) : Type 0 where
   pub slot : ℕ
   pub one-of-four : slot < 4
   pub setup : r₂ .setup ≡ r .setup
   pub others : (j : ℕ) → (j ≡ slot → ⊥) → slotAt (r₂ .slots) j ≡ slotAt (r .slots) j
+  pub offered : r₂ .tallies .offered ≡ r .tallies .offered
   pub size : length m₂ ≡ length m
   pub bytes-before : (k : ℕ) → k < 1024 * slot → getD m₂ k 0 ≡ getD m k 0
   pub bytes-behind : (k : ℕ) → 1024 * slot + 1024 ≤ k → getD m₂ k 0 ≡ getD m k 0
 
--- a packet changes at most one slot and that slot's 1,024 bytes
+-- nothing changes
+pub no-slot : (r : Receiver) (m : List ℕ) → OneSlot r m r m
+no-slot r m =
+    record {
+      slot = 0;
+      one-of-four = lit< tt;
+      setup = refl;
+      others = λ j d. refl;
+      offered = refl;
+      size = refl;
+      bytes-before = λ k h. refl;
+      bytes-behind = λ k h. refl;
+    }
+
+-- one slot becomes free
+pub freed-slot : (r : Receiver) (m : List ℕ) (i : ℕ) → i < 4 → OneSlot r m (withState r i Free) m
+freed-slot r m i h =
+    record {
+      slot = i;
+      one-of-four = h;
+      setup = refl;
+      others = λ j d. slot-other (r .slots) i j Free d;
+      offered = refl;
+      size = refl;
+      bytes-before = λ k g. refl;
+      bytes-behind = λ k g. refl;
+    }
+
+-- a message that is done is counted, and nothing else
+pub put-fields : (then : SlotState) (r : Receiver)
+    → (afterPut then r .setup ≡ r .setup) × (afterPut then r .slots ≡ r .slots)
+    × (afterPut then r .tallies .offered ≡ r .tallies .offered)
+put-fields Free r = (refl, refl, refl)
+put-fields (Gathering k q u h) r = (refl, refl, refl)
+
+-- a packet that has been counted changes at most one slot and that slot's 1,024 bytes
 pub one-slot : (most : ℕ) (r : Receiver) (m p : List ℕ)
-    → OneSlot r m (stepOf most r m p .receiver) (stepOf most r m p .memory)
+    → OneSlot (afterOffer r (decided most r (length m) p)) m (stepOf most r m p .receiver) (stepOf most r m p .memory)
 unfolding stepOf
 one-slot most r m p =
-    every-decision most r (length m) p (λ d. OneSlot r m (carriedOut r m p d .receiver) (carriedOut r m p d .memory))
+    every-decision most r (length m) p
+    (λ d. OneSlot (afterOffer r d) m (carriedOut (afterOffer r d) m p d .receiver)
+    (carriedOut (afterOffer r d) m p d .memory))
     (record {
-      refuses = λ n b. record {
-        slot = 0;
-        one-of-four = lit< tt;
-        setup = refl;
-        others = λ j d. refl;
-        size = refl;
-        bytes-before = λ k h. refl;
-        bytes-behind = λ k h. refl;
-      };
-      releases = λ x i n h b c. record {
-        slot = i;
-        one-of-four = h;
-        setup = refl;
-        others = λ j d. slot-other (r .slots) i j Free d;
-        size = refl;
-        bytes-before = λ k g. refl;
-        bytes-behind = λ k g. refl;
-      };
-      puts = λ x y i at again then f. record {
-        slot = i;
-        one-of-four = f .slot;
-        setup = refl;
-        others = λ j d. slot-other (r .slots) i j then d;
-        size = laid-length m (1024 * i + at) (bodyOf p);
-        bytes-before = λ k b. laid-before m (1024 * i + at) (bodyOf p) k (omega arith);
-        bytes-behind = λ k b. laid-behind m (1024 * i + at) (bodyOf p) k (omega (arith, f .place));
-      };
+      refuses = λ n b. no-slot (afterOffer r (refuse n)) m;
+      releases = λ x i n h b c. freed-slot (withOffered r) m i h;
+      puts = λ x y i at again then f.
+          let same = put-fields then (withState (withOffered r) i then) in
+          record {
+            slot = i;
+            one-of-four = f .slot;
+            setup = same .0;
+            others = λ j d. ap (λ (l : List Slot). slotAt l j) (same .1) ∙ slot-other (r .slots) i j then d;
+            offered = same .2;
+            size = laid-length m (1024 * i + at) (bodyOf p);
+            bytes-before = λ k b. laid-before m (1024 * i + at) (bodyOf p) k (omega arith);
+            bytes-behind = λ k b. laid-behind m (1024 * i + at) (bodyOf p) k (omega (arith, f .place));
+          };
     })
+
+-- set-up and the memory's size stay
+pub step-setup : (most : ℕ) (r : Receiver) (m p : List ℕ) → stepOf most r m p .receiver .setup ≡ r .setup
+step-setup most r m p = one-slot most r m p .setup ∙ offer-setup r (decided most r (length m) p)
+
+pub step-size : (most : ℕ) (r : Receiver) (m p : List ℕ) → length (stepOf most r m p .memory) ≡ length m
+step-size most r m p = one-slot most r m p .size

@@ -1,17 +1,19 @@
--- A packet given to the message rules: the decision carried out, with the answer, the receiver and every byte of the
--- memory.
+-- A packet given to the message rules: counted, and the decision carried out, with the answer, the receiver and every
+-- byte of the memory.
 -- Assumes nothing.
 use Prim.Native.Nat.{ℕ, _+_, _*_}
-use mathlib.Core.Bool.{Bool}
+use mathlib.Core.Bool.{Bool, true}
 use mathlib.Core.List.{List}
+use lib.Dec.{ltb}
 use lib.ListN.{length}
 use Rattle.octets.specs.Bytes.{laid}
+use Rattle.octets.specs.Choice.{pick}
 use Rattle.mctp.specs.Packet.{bodyOf}
 use Rattle.mctp.specs.Refusals.{numberOf}
 use Rattle.slots.specs.declared.state.SlotState.{SlotState}
 use Rattle.slots.specs.declared.state.SlotState.the-variants.{Free, Gathering}
 use Rattle.slots.specs.declared.state.Receiver.{Receiver}
-use Rattle.slots.specs.Changes.{withState}
+use Rattle.slots.specs.Changes.{withState, withOffered, withDone}
 use Rattle.decision.specs.Rules.{Decision, refuse, release, put}
 use Rattle.decision.specs.Decision.{decided}
 use Rattle.receiver.specs.declared.giving.Answer.{Answer}
@@ -46,6 +48,11 @@ abbrev pub answerOf : SlotState → (slot bytes : ℕ) → (again : Bool) → Sa
 answerOf Free slot bytes again = done slot bytes again
 answerOf (Gathering key sequence unit now) slot bytes again = held slot bytes again
 
+-- "messages done": one more for each answer "done"
+abbrev pub afterPut : SlotState → Receiver → Receiver
+afterPut Free r = withDone r
+afterPut (Gathering key sequence unit now) r = r
+
 -- a decision carried out. "1, 2 .. 15, 16, 17, 18, 19: number; all unchanged"; "20, 21, 22: number; that slot becomes
 -- free, memory unchanged". "message memory of exactly 4,096 lent bytes, 1,024 for each slot": slot i has those from
 -- 1,024 × i on.
@@ -55,10 +62,22 @@ carriedOut r m p (release slot n) = record { said = refused n; receiver = withSt
 carriedOut r m p (put slot at again then) =
     record {
       said = answerOf then slot (at + length (bodyOf p)) again;
-      receiver = withState r slot then;
+      receiver = afterPut then (withState r slot then);
       memory = laid m (1024 * slot + at) (bodyOf p);
     }
 
+-- "A packet refused with 3 or 15 to 22 counts as offered ..; 1 and 2 count nothing."
+abbrev pub offers : Decision → Bool
+offers (refuse n) = ltb 2 n
+offers (release slot n) = true
+offers (put slot at again then) = true
+
+-- the receiver that a decision is carried out on: the packet is counted first, whatever comes of it
+abbrev pub afterOffer : Receiver → Decision → Receiver
+afterOffer r d = pick (offers d) (withOffered r) r
+
 -- one packet given to the message rules
 unfoldable pub stepOf : (most : ℕ) → Receiver → (memory packet : List ℕ) → Left
-stepOf most r m p = carriedOut r m p (decided most r (length m) p)
+stepOf most r m p =
+    let d = decided most r (length m) p in
+    carriedOut (afterOffer r d) m p d

@@ -12,14 +12,15 @@ use Rattle.slots.specs.declared.state.Setup.{Setup}
 use Rattle.slots.specs.declared.state.SlotState.the-variants.{Free}
 use Rattle.slots.specs.declared.state.Receiver.{Receiver}
 use Rattle.slots.specs.Setup.{rightSetup}
+use Rattle.slots.specs.Tallies.{sumOf}
 use Rattle.slots.specs.State.{rightSlot, clash, rightState}
-use Rattle.slots.specs.Changes.{fresh, withState, setUpOf, freeRefusal, freedOf}
+use Rattle.slots.specs.Changes.{fresh, withState, withOffered, withDone, setUpOf, freeRefusal, freedOf}
 use Rattle.slots.proofs.States.{right-of, right-holds, with-right}
 
 -- a fresh receiver's state is right
 pub fresh-right : (most : ℕ) (s : Setup) → bodyRight most ≡ true → rightSetup s ≡ true
     → rightState most (fresh s) ≡ true
-unfolding rightState rightSlot clash
+unfolding rightState rightSlot clash sumOf
 fresh-right most s m e = rw (m, e)
 
 -- set-up gives a right state, also beside a refusal
@@ -29,6 +30,15 @@ set-up-right most s m =
     pick-elim (λ t. rightState most (fresh t) ≡ true) (rightSetup s) s (record { own = record { 0 = 0 } })
     (fresh-right most s m)
     (λ e. fresh-right most (record { own = record { 0 = 0 } }) m refl)
+
+-- a packet or a message counted leaves a right state right: any value of the last two tallies is
+pub offered-right : (most : ℕ) (r : Receiver) → rightState most r ≡ true → rightState most (withOffered r) ≡ true
+unfolding rightState
+offered-right most r e = e
+
+pub done-right : (most : ℕ) (r : Receiver) → rightState most r ≡ true → rightState most (withDone r) ≡ true
+unfolding rightState
+done-right most r e = e
 
 -- a slot freed leaves a right state right
 pub free-right : (most : ℕ) (r : Receiver) (i : ℕ) → i < 4 → rightState most r ≡ true

@@ -23,6 +23,9 @@ use Rattle.slots.proofs.check.right_within.Reads as within
 use Rattle.slots.proofs.find.slot_of.Reads as slot-of
 use Rattle.slots.proofs.find.lowest_free.Reads as lowest
 use Rattle.slots.proofs.find.state_at.Reads as state-at
+use Rattle.slots.proofs.tally.tallies_of.Reads as tallies-of
+use Rattle.slots.proofs.tally.with_offered.Reads as with-offered
+use Rattle.slots.proofs.tally.with_done.Reads as with-done
 
 -- an outcome is told by its number
 outcome-injective : (a b : Outcome) → outcomeNumber a ≡ outcomeNumber b → a ≡ b
@@ -66,6 +69,16 @@ lowest-free-determined κs a r q e f p o = determined p o
 pub state-at-determined : (κs : Lfts 0) (a r q e f : _) → state-at.Post κs a r e → state-at.Post κs a q f → r ≡ q
 state-at-determined κs a r q e f p o = determined p o
 
+pub tallies-of-determined : (κs : Lfts 0) (a r q e f : _) → tallies-of.Post κs a r e → tallies-of.Post κs a q f → r ≡ q
+tallies-of-determined κs a r q e f p o = determined p o
+
+pub with-offered-determined : (κs : Lfts 0) (a r q e f : _) → with-offered.Post κs a r e → with-offered.Post κs a q f
+    → r ≡ q
+with-offered-determined κs a r q e f p o = determined p o
+
+pub with-done-determined : (κs : Lfts 0) (a r q e f : _) → with-done.Post κs a r e → with-done.Post κs a q f → r ≡ q
+with-done-determined κs a r q e f p o = determined p o
+
 -- What `right` says is what `free` goes by.
 pub right-is-freed : (κs : Lfts 0) (a e : _) → right.Post κs a true e → (i : ℕ) (r f : _) → i < 4
     → free.Post κs (a .0, (i, tt)) r f
@@ -91,7 +104,13 @@ pub no-requires : ((κs : Lfts 0) (a : _) → set-up.Pre κs a)
     × ((κs : Lfts 0) (a : _) → slot-of.Pre κs a)
     × ((κs : Lfts 0) (a : _) → lowest.Pre κs a)
     × ((κs : Lfts 0) (a : _) → state-at.Pre κs a)
+    × ((κs : Lfts 0) (a : _) → tallies-of.Pre κs a)
+    × ((κs : Lfts 0) (a : _) → with-offered.Pre κs a)
+    × ((κs : Lfts 0) (a : _) → with-done.Pre κs a)
 no-requires = (
+  (λ κs a. tt),
+  (λ κs a. tt),
+  (λ κs a. tt),
   (λ κs a. tt),
   (λ κs a. tt),
   (λ κs a. tt),

@@ -1,4 +1,4 @@
--- The state check, set-up and a slot freed, on literal states at the limits that document 01 names.
+-- The state check, set-up, a slot freed and the tallies, on literal states at the limits that the documents name.
 -- Assumes nothing.
 use mathlib.Core.Path.{_≡_, refl}
 use mathlib.Core.Bool.{Bool, true, false}
@@ -11,14 +11,29 @@ use Rattle.slots.specs.declared.state.SlotState.the-variants.{Gathering}
 use Rattle.slots.specs.declared.state.Receiver.{Receiver}
 use Rattle.slots.specs.Slots.{firstOf, slotOf, lowestFree}
 use Rattle.slots.specs.State.{multiple, rightNumbers, rightSlot, clash, rightState}
-use Rattle.slots.specs.Changes.{freeSlot, fresh, setUpRefusal, setUpOf, freeRefusal, freedOf}
+use Rattle.slots.specs.Tallies.{sumOf, gatheringIn, heldIn, nextTally}
+use Rattle.slots.specs.Changes.{freeSlot, fresh, withState, withTallies, withOffered, withDone}
+use Rattle.slots.specs.Changes.{setUpRefusal, setUpOf, freeRefusal, freedOf}
 
--- the receiver of EID 9 with these slots
-abbrev pub with-slots : Slot → Slot → Slot → Slot → Receiver
-with-slots a b c d = record { setup = record { own = record { 0 = 9 } }; slots = a ∷ b ∷ c ∷ d ∷ [] }
-
+-- the receiver of EID 9, and it with these slots and the tallies that they tell
 abbrev pub card : Receiver
 card = fresh (record { own = record { 0 = 9 } })
+
+abbrev with-all : List Slot → Receiver
+with-all slots =
+    record {
+      setup = card .setup;
+      slots = slots;
+      tallies = record { gathering = gatheringIn slots; held = heldIn slots; offered = 0; done = 0 };
+    }
+
+abbrev pub with-slots : Slot → Slot → Slot → Slot → Receiver
+with-slots a b c d = with-all (a ∷ b ∷ c ∷ d ∷ [])
+
+-- a receiver with these tallies instead
+abbrev pub tallied : ℕ → ℕ → ℕ → ℕ → Receiver → Receiver
+tallied gathering held offered done r =
+    withTallies r (record { gathering = gathering; held = held; offered = offered; done = done })
 
 abbrev pub key : ℕ → ℕ → Bool → ℕ → Key
 key d s o t = record { destination = record { 0 = d }; source = record { 0 = s }; owner = o; tag = t }
@@ -32,7 +47,7 @@ gathering t n = slot (key 9 10 true t) 0 64 n
 
 -- whether EID 9 may have these four slots, or this one
 abbrev may-have : List Slot → Bool
-may-have slots = rightState 64 (record { setup = record { own = record { 0 = 9 } }; slots = slots })
+may-have slots = rightState 64 (with-all slots)
 
 abbrev may-hold : Slot → Bool
 may-hold s = may-have (freeSlot ∷ s ∷ freeSlot ∷ freeSlot ∷ [])
@@ -46,6 +61,14 @@ b = gathering 2 64
 
 abbrev c : Slot
 c = gathering 3 64
+
+-- slots that hold 64, 128 and 1,024 bytes, one free, seven packets offered and five messages done
+abbrev three : Receiver
+three = tallied 3 1216 7 5 (with-slots a (gathering 2 128) freeSlot (gathering 3 1024))
+
+-- whether its slots may have these tallies
+abbrev three-with : ℕ → ℕ → ℕ → ℕ → Bool
+three-with gathering held offered done = rightState 64 (tallied gathering held offered done three)
 
 -- keys that differ in destination, source or tag owner, and a slot for each
 abbrev keys : List Key
@@ -93,10 +116,39 @@ pub record Literals : Type 0 where
       ∷ with-slots a b c (gathering 4 64)
       ∷ []
   pub freed-numbers : map (freeRefusal 64 (with-slots a b c (gathering 4 64))) (2 ∷ 3 ∷ 4 ∷ []) ≡ 0 ∷ 0 ∷ 1 ∷ []
+  -- "A stored state whose first two tallies are wrong is refused with 1.": three slots hold 64, 128 and 1,024 bytes
+  pub tallies : map (λ (gathering : ℕ). three-with gathering 1216 0 0) (0 ∷ 2 ∷ 3 ∷ 4 ∷ [])
+      ∷ map (λ (held : ℕ). three-with 3 held 0 0) (0 ∷ 1215 ∷ 1216 ∷ 1217 ∷ [])
+      ∷ []
+      ≡ (false ∷ false ∷ true ∷ false ∷ []) ∷ (false ∷ false ∷ true ∷ false ∷ []) ∷ []
+  -- any value of the last two passes, more messages done than packets offered too
+  pub any-counts : three-with 3 1216 0 1 ∷ three-with 3 1216 4294967295 4294967295 ∷ [] ≡ true ∷ true ∷ []
+  -- "keep them true through every call": slot 3 freed; slot 2, which is free; slot 1 begun again with 2 bytes; slot 2
+  -- begun with 2 bytes; and slot 4, which isn't there
+  pub moves : freedOf 64 three 3
+      ∷ freedOf 64 three 2
+      ∷ withState three 1 (Gathering (key 9 10 true 2) 3 2 2)
+      ∷ withState three 2 (Gathering (key 9 10 true 5) 3 2 2)
+      ∷ withState three 4 (Gathering (key 9 10 true 5) 3 2 2)
+      ∷ []
+      ≡ tallied 2 192 7 5 (with-slots a (gathering 2 128) freeSlot freeSlot)
+      ∷ three
+      ∷ tallied 3 1090 7 5 (with-slots a (slot (key 9 10 true 2) 3 2 2) freeSlot (gathering 3 1024))
+      ∷ tallied 4 1218 7 5 (with-slots a (gathering 2 128) (slot (key 9 10 true 5) 3 2 2) (gathering 3 1024))
+      ∷ three
+      ∷ []
+  -- "packets offered to the message rules, and messages done", each counted alone; they "stop at 4,294,967,295"
+  pub counted : withOffered three ∷ withDone three ∷ [] ≡ tallied 3 1216 8 5 three ∷ tallied 3 1216 7 6 three ∷ []
+  pub stops : map nextTally (0 ∷ 4294967294 ∷ 4294967295 ∷ []) ≡ 1 ∷ 4294967295 ∷ 4294967295 ∷ []
+  -- nothing is tallied at set-up, refused or not
+  pub none-tallied : map (λ (e : ℕ). setUpOf (record { own = record { 0 = e } }) .tallies) (8 ∷ 7 ∷ [])
+      ≡ record { gathering = 0; held = 0; offered = 0; done = 0 }
+      ∷ record { gathering = 0; held = 0; offered = 0; done = 0 }
+      ∷ []
 
 pub literals : Literals
 unfolding setUpRefusal setUpOf freeRefusal freedOf slotOf lowestFree firstOf sameKey rightState rightSlot rightNumbers
-    multiple clash
+    multiple clash sumOf
 literals =
     record {
       own-eids = refl;
@@ -112,4 +164,10 @@ literals =
       lowest = refl;
       freed = refl;
       freed-numbers = refl;
+      tallies = refl;
+      any-counts = refl;
+      moves = refl;
+      counted = refl;
+      stops = refl;
+      none-tallied = refl;
     }

@@ -3,14 +3,16 @@
 use mathlib.Core.Path.{_≡_}
 use mathlib.Core.Bool.{true, _&&_}
 use Prim.Native.Nat.{ℕ, _%_, _≤_}
-use lib.Dec.{leb, eqb}
+use lib.Dec.{leb, eqb, lit≤}
 use borrow.Author.Tests.{leb-true, le-leb, eqb-true, eq-eqb}
 use Rattle.octets.proofs.Choice.{both}
 use Rattle.mctp.specs.declared.packet.Key.{Key}
 use Rattle.slots.specs.declared.state.Setup.{Setup}
-use Rattle.slots.specs.declared.state.SlotState.the-variants.{Gathering}
+use Rattle.slots.specs.declared.state.SlotState.{SlotState}
+use Rattle.slots.specs.declared.state.SlotState.the-variants.{Free, Gathering}
 use Rattle.slots.specs.Setup.{oursOf}
 use Rattle.slots.specs.State.{multiple, rightNumbers, rightSlot}
+use Rattle.slots.specs.Tallies.{bytesHeld}
 
 -- "Held is a positive multiple of the unit, at most 1,024; unit is 1 to 64; sequence is 0 to 3"
 pub record Numbers (most q u h : ℕ) : Type 0 where
@@ -58,6 +60,11 @@ gathering-of most s k q u h e =
     let a = both (rightNumbers most q u h && leb (k .tag) 7) (oursOf s (k .destination .0)) e in
     let b = both (rightNumbers most q u h) (leb (k .tag) 7) (a .0) in
     (numbers-of most q u h (b .0), leb-true (k .tag) 7 (b .1), a .1)
+
+-- a right slot holds 1,024 bytes at most
+pub slot-holds : (most : ℕ) (s : Setup) (x : SlotState) → rightSlot most s x ≡ true → bytesHeld x ≤ 1024
+slot-holds most s Free e = lit≤ tt
+slot-holds most s (Gathering k q u h) e = gathering-of most s k q u h e .0 .held-high
 
 pub gathering-holds : (most : ℕ) (s : Setup) (k : Key) (q u h : ℕ) → Numbers most q u h → k .tag ≤ 7
     → oursOf s (k .destination .0) ≡ true

@@ -1,47 +1,40 @@
 -- A right state taken apart into facts, one for each slot and each pair, and put together from them.
 -- Assumes nothing.
-use mathlib.Core.Path.{_≡_, refl, ap, sym, _∙_}
+use mathlib.Core.Path.{_≡_, refl, ap, sym, subst, _∙_}
 use mathlib.Core.Bool.{Bool, true, false, not}
-use mathlib.Core.List.{List}
-use mathlib.Core.Logic.{dite}
-use Prim.Native.Nat.{ℕ, zero, suc, _≤_, _<_}
-use native.Mathlib.Decide.{ℕ-discrete}
+use mathlib.Core.Logic.{dite, by-cases}
+use Prim.Native.Nat.{ℕ, _+_, _≤_, _<_}
+use native.Mathlib.Decide.{decLt, ℕ-discrete}
 use native.Mathlib.Omega.{arith}
-use lib.Dec.{lit<}
-use lib.ListN.{length, set, length-set}
-use lib.Seq.{getD-set-same, getD-set-other}
+use lib.Dec.{lit<, lit≤}
+use lib.ListN.{length, length-set}
 use borrow.Author.Tests.{eqb-true, eq-eqb, not-true}
 use Rattle.octets.proofs.Choice.{both, within-bounds}
 use Rattle.mctp.specs.declared.packet.Key.{Key}
 use Rattle.mctp.specs.Key.{sameKey}
 use Rattle.mctp.specs.Packet.{bodyRight}
 use Rattle.mctp.proofs.Keys.{same-key-refl, same-key-true}
-use Rattle.slots.specs.declared.state.Slot.{Slot}
 use Rattle.slots.specs.declared.state.SlotState.{SlotState}
 use Rattle.slots.specs.declared.state.SlotState.the-variants.{Free, Gathering}
 use Rattle.slots.specs.declared.state.Receiver.{Receiver}
 use Rattle.slots.specs.Setup.{rightSetup}
 use Rattle.slots.specs.Slots.{slotAt, hasKey}
+use Rattle.slots.specs.Tallies.{oneGathering, bytesHeld, gatheringIn, heldIn}
 use Rattle.slots.specs.State.{rightSlot, clash, rightState}
 use Rattle.slots.specs.Changes.{withState}
+use Rattle.slots.proofs.Slots.{four-cases, slot-same, slot-other}
+use Rattle.slots.proofs.Numbers.{slot-holds}
+use Rattle.slots.proofs.Tallies.{one-at-most, sum-at-most, sum-moves, moved-true, past-last}
 
--- document 01's list: the set-up, four slots, each slot, each pair
+-- the list: the set-up, four slots, each slot, each pair, the tallies that the slots tell
 pub record Right (most : ℕ) (r : Receiver) : Type 0 where
   pub most-right : bodyRight most ≡ true
   pub setup : rightSetup (r .setup) ≡ true
   pub four : length (r .slots) ≡ 4
   pub each : (i : ℕ) → i < 4 → rightSlot most (r .setup) (slotAt (r .slots) i) ≡ true
   pub apart : (i j : ℕ) → i < 4 → j < 4 → (i ≡ j → ⊥) → clash (slotAt (r .slots) i) (slotAt (r .slots) j) ≡ false
-
--- what holds of the four slots holds of each
-four-cases : (P : ℕ → Type 0) → P 0 → P 1 → P 2 → P 3 → (i : ℕ) → i < 4 → P i
-four-cases P a b c d zero h = a
-four-cases P a b c d (suc zero) h = b
-four-cases P a b c d (suc (suc zero)) h = c
-four-cases P a b c d (suc (suc (suc zero))) h = d
-four-cases P a b c d (suc (suc (suc (suc i)))) h =
-    let none : ⊥ = omega arith in
-    absurd none
+  pub gathering : r .tallies .gathering ≡ gatheringIn (r .slots)
+  pub held : r .tallies .held ≡ heldIn (r .slots)
 
 -- a slot that has a key, and one that clashes, by what they hold
 pub has-key-true : (k : Key) (s : SlotState) → hasKey k s ≡ true → (q u h : ℕ) → (j : Key) → s ≡ Gathering j q u h
@@ -71,7 +64,9 @@ unfolding rightState
 right-of most r e =
     let l = r .slots in
     let a = both _ _ e in
-    let b = both _ _ (a .0) in
+    let told = both _ _ (a .0) in
+    let tallies = both _ _ (told .1) in
+    let b = both _ _ (told .0) in
     let c = both _ _ (b .0) in
     let d = both _ _ (c .0) in
     let third = both _ _ (c .1) in
@@ -101,6 +96,8 @@ right-of most r e =
           (four-cases (λ (j : ℕ). (3 ≡ j → ⊥) → clash (slotAt l 3) (slotAt l j) ≡ false) (λ n. turned 0 3 (ad .1))
           (λ n. turned 1 3 (bd .1)) (λ n. turned 2 3 (cd .1)) (λ n. absurd (n refl)))
           i hi j hj;
+      gathering = eqb-true _ _ (tallies .0);
+      held = eqb-true _ _ (tallies .1);
     }
 
 pub right-holds : (most : ℕ) (r : Receiver) → Right most r → rightState most r ≡ true
@@ -122,21 +119,14 @@ right-holds most r R =
       free 1 2 (lit< tt) (lit< tt) (lit< tt),
       free 1 3 (lit< tt) (lit< tt) (lit< tt),
       free 2 3 (lit< tt) (lit< tt) (lit< tt),
+      eq-eqb _ _ (R .gathering),
+      eq-eqb _ _ (R .held),
       eq-eqb _ _ (R .four),
     )
 
 -- the largest body of a right state
 pub most-bounds : (most : ℕ) (r : Receiver) → rightState most r ≡ true → (64 ≤ most) × (most ≤ 246)
 most-bounds most r e = within-bounds 64 246 most (right-of most r e .most-right)
-
--- a slot set anew: it, and the others
-pub slot-same : (l : List Slot) (i : ℕ) (s : SlotState) → i < length l → slotAt (set l i (record { state = s })) i ≡ s
-slot-same l i s h = ap (λ (x : Slot). x .state) (getD-set-same l i (record { state = s }) (record { state = Free }) h)
-
-pub slot-other : (l : List Slot) (i j : ℕ) (s : SlotState) → (j ≡ i → ⊥)
-    → slotAt (set l i (record { state = s })) j ≡ slotAt l j
-slot-other l i j s n =
-    ap (λ (x : Slot). x .state) (getD-set-other l i j (record { state = s }) (record { state = Free }) n)
 
 -- a right state stays right where one slot gets a right state whose key no other slot has
 module _ (most : ℕ) (r : Receiver) (R : Right most r) (i : ℕ) (s : SlotState) (h : i < 4)
@@ -151,13 +141,16 @@ module _ (most : ℕ) (r : Receiver) (R : Right most r) (i : ℕ) (s : SlotState
   at-other : (j : ℕ) → (i ≡ j → ⊥) → slotAt (withState r i s .slots) j ≡ slotAt (r .slots) j
   at-other j n = slot-other (r .slots) i j s (λ e. n (sym e))
 
+  each : (j : ℕ) → j < 4 → rightSlot most (r .setup) (slotAt (withState r i s .slots) j) ≡ true
+  each j hj = dite (ℕ-discrete i j) (λ e. rw (at-same j e) right) (λ n. rw (at-other j n) (R .each j hj))
+
   pub with-right : Right most (withState r i s)
   with-right =
       record {
         most-right = R .most-right;
         setup = R .setup;
         four = length-set (r .slots) i (record { state = s }) ∙ R .four;
-        each = λ j hj. dite (ℕ-discrete i j) (λ e. rw (at-same j e) right) (λ n. rw (at-other j n) (R .each j hj));
+        each = each;
         apart = λ j k hj hk n.
             dite (ℕ-discrete i j)
             (λ ej. rw (at-same j ej, at-other k (λ ek. n (sym ej ∙ ek))) (alone k hk (λ ek. n (sym ej ∙ ek))))
@@ -165,4 +158,61 @@ module _ (most : ℕ) (r : Receiver) (R : Right most r) (i : ℕ) (s : SlotState
             dite (ℕ-discrete i k)
             (λ ek. rw (at-other j nj, at-same k ek) (clash-sym (slotAt (r .slots) j) s ∙ alone j hj nj))
             (λ nk. rw (at-other j nj, at-other k nk) (R .apart j k hj hk n)));
+        gathering = moved-true oneGathering refl 1 (lit≤ tt) (r .slots) i s (R .four) h (r .tallies .gathering)
+            (R .gathering) (λ j hj. one-at-most (slotAt (withState r i s .slots) j));
+        held = moved-true bytesHeld refl 1024 (lit≤ tt) (r .slots) i s (R .four) h (r .tallies .held) (R .held)
+            (λ j hj. slot-holds most (r .setup) (slotAt (withState r i s .slots) j) (each j hj));
       }
+
+-- from one right state to another in which one slot differs, each tally that the slots tell moves by the difference
+pub tallies-move : (most : ℕ) (r : Receiver) (i : ℕ) (s : SlotState) → Right most r → Right most (withState r i s)
+    → i < 4
+    → (withState r i s .tallies .gathering + oneGathering (slotAt (r .slots) i)
+    ≡ r .tallies .gathering + oneGathering s)
+    × (withState r i s .tallies .held + bytesHeld (slotAt (r .slots) i) ≡ r .tallies .held + bytesHeld s)
+tallies-move most r i s before after h =
+    let there : i < length (r .slots) = omega (arith, before .four) in (
+      omega (
+        arith,
+        before .gathering,
+        after .gathering,
+        sum-moves oneGathering (r .slots) s i there h,
+      ),
+      omega (
+        arith,
+        before .held,
+        after .held,
+        sum-moves bytesHeld (r .slots) s i there h,
+      ),
+    )
+
+-- a slot of a right state set to anything that a slot can store, or one that isn't there: what the slots tell stays true
+pub told-stays : (most : ℕ) (r : Receiver) (i : ℕ) (s : SlotState) → Right most r → bytesHeld s ≤ 65535
+    → (withState r i s .tallies .gathering ≡ gatheringIn (withState r i s .slots))
+    × (withState r i s .tallies .held ≡ heldIn (withState r i s .slots))
+told-stays most r i s R fits =
+    by-cases (decLt i 4)
+    (λ (h : i < 4). (
+      moved-true oneGathering refl 1 (lit≤ tt) (r .slots) i s (R .four) h (r .tallies .gathering) (R .gathering)
+          (λ j hj. one-at-most (slotAt (withState r i s .slots) j)),
+      moved-true bytesHeld refl 65535 (lit≤ tt) (r .slots) i s (R .four) h (r .tallies .held) (R .held) (slot-fits h),
+    ))
+    (λ (n : i < 4 → ⊥).
+    let past = past-last r i s (omega (arith, R .four))
+    (omega (arith, R .gathering, sum-at-most oneGathering 1 (r .slots) (λ j hj. one-at-most (slotAt (r .slots) j))))
+    (omega (arith, R .held, sum-at-most bytesHeld 1024 (r .slots) holds)) in
+    subst
+    (λ (x : Receiver). (x .tallies .gathering ≡ gatheringIn (x .slots)) × (x .tallies .held ≡ heldIn (x .slots)))
+    (sym past) (R .gathering, R .held))
+  where
+    holds : (j : ℕ) → j < 4 → bytesHeld (slotAt (r .slots) j) ≤ 1024
+    holds j hj = slot-holds most (r .setup) (slotAt (r .slots) j) (R .each j hj)
+
+    slot-fits : i < 4 → (j : ℕ) → j < 4 → bytesHeld (slotAt (withState r i s .slots) j) ≤ 65535
+    slot-fits h j hj =
+        dite (ℕ-discrete j i)
+        (λ (e : j ≡ i).
+        let same = ap (λ (k : ℕ). bytesHeld (slotAt (withState r i s .slots) k)) e
+        ∙ ap bytesHeld (slot-same (r .slots) i s (omega (arith, R .four))) in
+        omega (arith, same))
+        (λ (d : j ≡ i → ⊥). omega (arith, ap bytesHeld (slot-other (r .slots) i j s d), holds j hj))

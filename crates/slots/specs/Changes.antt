@@ -1,8 +1,8 @@
--- How a state changes: a slot's state set anew, set-up, a slot freed.
+-- How a state changes: set-up, a slot's state set anew, a packet or a message counted, a slot freed.
 -- Assumes nothing.
 use Prim.Native.Nat.{ℕ}
 use mathlib.Core.Bool.{_&&_}
-use mathlib.Core.List.{[], _∷_}
+use mathlib.Core.List.{List, [], _∷_}
 use lib.Dec.{ltb}
 use lib.ListN.{set}
 use Rattle.octets.specs.Choice.{pick}
@@ -10,20 +10,61 @@ use Rattle.slots.specs.declared.state.Setup.{Setup}
 use Rattle.slots.specs.declared.state.Slot.{Slot}
 use Rattle.slots.specs.declared.state.SlotState.{SlotState}
 use Rattle.slots.specs.declared.state.SlotState.the-variants.{Free}
+use Rattle.slots.specs.declared.state.Tallies.{Tallies}
 use Rattle.slots.specs.declared.state.Receiver.{Receiver}
 use Rattle.slots.specs.Setup.{rightSetup}
+use Rattle.slots.specs.Slots.{slotAt}
 use Rattle.slots.specs.State.{rightState}
+use Rattle.slots.specs.Tallies.{nextTally, movedTallies}
 
 abbrev pub freeSlot : Slot
 freeSlot = record { state = Free }
 
--- a receiver just set up: four free slots
+abbrev pub allZero : Tallies
+allZero = record { gathering = 0; held = 0; offered = 0; done = 0 }
+
+-- a receiver just set up: four free slots, and nothing tallied
 abbrev pub fresh : Setup → Receiver
-fresh s = record { setup = s; slots = freeSlot ∷ freeSlot ∷ freeSlot ∷ freeSlot ∷ [] }
+fresh s = record { setup = s; slots = freeSlot ∷ freeSlot ∷ freeSlot ∷ freeSlot ∷ []; tallies = allZero }
+
+-- the receiver with these slots, of which slot i alone may be another than it was: the tallies move with it
+abbrev pub withSlots : Receiver → (slot : ℕ) → List Slot → Receiver
+withSlots r i slots =
+    record {
+      setup = r .setup;
+      slots = slots;
+      tallies = movedTallies (r .tallies) (slotAt (r .slots) i) (slotAt slots i);
+    }
 
 -- the receiver with slot i in another state; past the last slot there is nothing to change
 abbrev pub withState : Receiver → (slot : ℕ) → SlotState → Receiver
-withState r i s = record { setup = r .setup; slots = set (r .slots) i (record { state = s }) }
+withState r i s = withSlots r i (set (r .slots) i (record { state = s }))
+
+-- the receiver with other tallies
+abbrev pub withTallies : Receiver → Tallies → Receiver
+withTallies r t = record { setup = r .setup; slots = r .slots; tallies = t }
+
+-- "packets offered to the message rules": one more
+abbrev pub withOffered : Receiver → Receiver
+withOffered r =
+    withTallies r
+    (record {
+      gathering = r .tallies .gathering;
+      held = r .tallies .held;
+      offered = nextTally (r .tallies .offered);
+      done = r .tallies .done;
+    })
+
+-- "and messages done": one more
+abbrev pub withDone : Receiver → Receiver
+withDone r =
+    withTallies r
+    (record {
+      gathering = r .tallies .gathering;
+      held = r .tallies .held;
+      offered = r .tallies .offered;
+      done = nextTally (r .tallies .done);
+    })
 
 -- "A set-up or state that breaks this is refused with 1."
 unfoldable pub setUpRefusal : Setup → ℕ

@@ -1,4 +1,5 @@
 pub mod Setup
 pub mod Slots
+pub mod Tallies
 pub mod State
 pub mod Changes

@@ -1,4 +1,4 @@
--- What makes a receiver's state right (document 01, "Putting messages together"): exactly its list.
+-- What makes a receiver's state right (document 01, "Putting messages together"; document 02, #102): exactly that list.
 -- Assumes nothing.
 use Prim.Native.Nat.{ℕ, _%_}
 use mathlib.Core.Bool.{Bool, true, false, not, _&&_}
@@ -11,6 +11,7 @@ use Rattle.slots.specs.declared.state.SlotState.the-variants.{Free, Gath
 use Rattle.slots.specs.declared.state.Receiver.{Receiver}
 use Rattle.slots.specs.Setup.{rightSetup, oursOf}
 use Rattle.slots.specs.Slots.{slotAt, hasKey}
+use Rattle.slots.specs.Tallies.{gatheringIn, heldIn, rightTallies}
 
 -- "a positive multiple of the unit": of a unit that is at least 1
 unfoldable pub multiple : (unit held : ℕ) → Bool
@@ -48,4 +49,5 @@ rightState most r =
     && rightSetup (r .setup)
     && fourRight most (r .setup) (slotAt (r .slots) 0) (slotAt (r .slots) 1) (slotAt (r .slots) 2) (slotAt (r .slots) 3)
     && fourApart (slotAt (r .slots) 0) (slotAt (r .slots) 1) (slotAt (r .slots) 2) (slotAt (r .slots) 3)
+    && rightTallies (r .tallies) (gatheringIn (r .slots)) (heldIn (r .slots))
     && eqb (length (r .slots)) 4

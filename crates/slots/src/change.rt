@@ -1,9 +1,12 @@
 // The changes of a state: set-up, a slot freed, a slot's state set anew.
 use crate::check;
+use crate::find;
 use crate::state::Receiver;
 use crate::state::Setup;
 use crate::state::Slot;
 use crate::state::SlotState;
+use crate::state::Tallies;
+use crate::tally;
 use mctp::Eid;
 use mctp::Outcome;
 use mctp::Refusal;
@@ -42,13 +45,19 @@ pub fn free(receiver: Receiver, slot: usize) -> Changed
     free_within(mctp::LARGEST_BODY, receiver, slot)
 }
 
-// The only write of a slot.
+// The only write of a slot; the tallies move with it.
 pub fn with_state(receiver: Receiver, slot: usize, state: SlotState) -> Receiver
     ensures { λ r. ⌜ r ≡ withState receiver slot state ⌝ }
 {
     if slot < 4 {
+        let before = Slot {
+            state: find::state_at(receiver, slot),
+        };
+        let now = Slot { state: state };
+        let moved = tally::moved_tallies(receiver.tallies, before, now);
         let mut next = receiver;
-        next.slots[slot] = Slot { state: state };
+        next.slots[slot] = now;
+        next.tallies = moved;
         return next;
     }
     receiver
@@ -79,5 +88,11 @@ fn fresh_of(setup: Setup) -> Receiver
     Receiver {
         setup: setup,
         slots: [free, free, free, free],
+        tallies: Tallies {
+            gathering: 0,
+            held: 0,
+            offered: 0,
+            done: 0,
+        },
     }
 }

@@ -3,6 +3,7 @@ use crate::state::Receiver;
 use crate::state::Setup;
 use crate::state::Slot;
 use crate::state::SlotState;
+use crate::tally;
 use mctp::Eid;
 use mctp::Key;
 ghost use mathlib.Core.Path.{_≡_};
@@ -31,6 +32,7 @@ pub fn right_within(most: usize, receiver: Receiver) -> bool
         & setup.own.is_endpoint()
         & four_right(most, setup, a, b, c, d)
         & four_apart(a, b, c, d)
+        & tally::right_tallies(receiver.tallies, a, b, c, d)
 }
 
 // Whether 16 lets this destination through.

@@ -1,8 +1,9 @@
-// The receiver's state: its set-up, its four slots, what makes them right, and a slot freed.
+// The receiver's state: its set-up, its four slots, its tallies, what makes them right, and a slot freed.
 mod change;
 mod check;
 mod find;
 mod state;
+mod tally;
 
 pub use change::Changed;
 pub use change::free;
@@ -18,3 +19,7 @@ pub use state::Receiver;
 pub use state::Setup;
 pub use state::Slot;
 pub use state::SlotState;
+pub use state::Tallies;
+pub use tally::tallies_of;
+pub use tally::with_done;
+pub use tally::with_offered;

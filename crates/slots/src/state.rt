@@ -1,4 +1,4 @@
-// The receiver by value: what it was set up with, and its four slots.
+// The receiver by value: what it was set up with, its four slots, and its tallies.
 use mctp::Eid;
 use mctp::Key;
 
@@ -21,7 +21,16 @@ pub struct Slot {
     pub state: SlotState,
 }
 
+// What the front panel shows: slots gathering, bytes held by them, packets offered to the message rules, messages done.
+pub struct Tallies {
+    pub gathering: u32,
+    pub held: u32,
+    pub offered: u32,
+    pub done: u32,
+}
+
 pub struct Receiver {
     pub setup: Setup,
     pub slots: [Slot; 4],
+    pub tallies: Tallies,
 }

@@ -12,7 +12,9 @@ use Rattle.smbus.specs.Reading as smbus
 use Rattle.slots.specs.declared.state.SlotState.the-variants.{Free}
 use Rattle.slots.specs.Slots as slots
 use Rattle.slots.specs.State as state
+use Rattle.slots.specs.Tallies.{sumOf}
 use Rattle.slots.specs.Changes.{fresh}
+use Rattle.slots.proofs.Literal.{tallied}
 use Rattle.decision.specs.Rules as rules
 use Rattle.decision.specs.Decision.{decided}
 use Rattle.receiver.specs.Step.{stepOf}
@@ -43,7 +45,7 @@ done : decided 64 (fresh (record { own = record { 0 = 9 } })) 4096 (0x01 ∷ 0x0
     ≡ rules.put 0 0 false Free
 unfolding decided rules.ruled
     rules.onStart rules.after key.keyOf key.headerOf key.sameKey slots.firstOf slots.slotOf slots.lowestFree
-    state.rightState state.rightSlot state.clash
+    state.rightState state.rightSlot state.clash sumOf
 done = refl
 
 -- what the two frames leave, in any memory of the right size
@@ -51,13 +53,13 @@ module _ (m : List ℕ) (sized : length m ≡ 4096) where
   first : Ran
   first =
       record {
-        state = record { receiver = start .receiver; arrivals = 1; packets = 1 };
+        state = record { receiver = tallied 0 0 1 1 (start .receiver); arrivals = 1; packets = 1 };
         memory = laid m 0 (0x00 ∷ []);
         text = lineBytes 1 (Done 0 1 false);
       }
 
   one : afterFrame start m (0x40 ∷ 0x0F ∷ 0x06 ∷ 0x23 ∷ 0x01 ∷ 0x09 ∷ 0x0A ∷ 0xC8 ∷ 0x00 ∷ 0x71 ∷ []) ≡ first
-  unfolding afterFrame stepOf oneMore first
+  unfolding afterFrame stepOf oneMore sumOf first
   one = rw (found, sized, done)
 
   two : (s : State) (n : List ℕ)

@@ -49,6 +49,10 @@ part-send-end c =
     let k = c .before .before .before .before .before .before in
     omega (arith, one k .fits, k .chunk .kept .1 .1 .1 .0)
 
+-- the place behind the chunk lies within the bytes, whose number the machine can count
+add-read : tie.Need-add-read Inv-loop μ-loop
+add-read c = omega (arith, on c .within, entry (behind c) .good .1 .1 .0)
+
 loop-again : tie.Need-loop-again Inv-loop μ-loop
 loop-again c =
     let k = behind (c .before) in
@@ -76,5 +80,5 @@ drain-spec =
     tie.close
     (tie.spec Inv-loop μ-loop (λ c. (going-start _ _ _ _, refl, refl)) (λ c. c .before .loop .inv .0 .within)
     (λ c. omega (arith, c .before .loop .inv .0 .within)) (λ c. omega (arith, c .before .loop .inv .0 .within))
-    (λ c κs. tt) (λ c. omega arith) (λ c. omega arith) part-send-end (λ c κs. tt) (λ c. omega (arith, on c .within))
+    (λ c κs. tt) (λ c. omega arith) (λ c. omega arith) part-send-end (λ c κs. tt) add-read
     (λ c. omega (arith, on (c .before) .within)) loop-again same-length same-length-2 returns)

@@ -25,12 +25,13 @@ body c =
 
 returns-3 : tie.Need-returns-3
 returns-3 c =
-    let laid = c .before .before .before .before in
+    let laid = c .before .before .before .before .before in
     let cut = laid .before .before in
     rw (
       cut .before .before .plan3 .given .1,
-      c .with-state2 .ensures,
-      c .before .answer-of .ensures,
+      c .finished .ensures,
+      c .before .with-state2 .ensures,
+      c .before .before .answer-of .ensures,
       laid .lay .ensures,
       body cut,
     )
@@ -40,5 +41,5 @@ carry-out-spec =
     tie.close
     (tie.spec (λ c. search needs) (λ c. search needs) (λ c. search needs) (λ c κs. search needs) (λ c. search needs)
     (λ c. search needs) (λ c. search needs) (λ c κs. search needs) (λ c. search needs) (λ c. search needs)
-    (λ c κs. search needs) (λ c. search needs) (λ c κs. search needs) (λ c κs. search needs) returns returns-2
-    (λ c. search needs) returns-3)
+    (λ c κs. search needs) (λ c. search needs) (λ c κs. search needs) (λ c κs. search needs) (λ c κs. search needs)
+    returns returns-2 (λ c. search needs) returns-3)

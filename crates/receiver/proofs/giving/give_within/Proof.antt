@@ -9,8 +9,11 @@ use Rattle.receiver.proofs.giving.give_within.Tie as tie
 returns : tie.Need-returns
 unfolding stepOf
 returns c =
-    rw (sym (c .before .before .before .before .decide-within .ensures)) (c .before .before .carry-out .ensures)
+    let carried = c .before .before in
+    let counted = carried .before .before in
+    rw (sym (counted .before .decide-within .ensures), sym (counted .offered .ensures)) (carried .carry-out .ensures)
 
 pub give-within-spec : {M : Type 1} → statement M
 give-within-spec =
-    tie.close (tie.spec (λ c κs. search needs) (λ c κs. search needs) (λ c. search needs) returns)
+    tie.close
+    (tie.spec (λ c κs. search needs) (λ c κs. search needs) (λ c κs. search needs) (λ c. search needs) returns)
