@@ -1,4 +1,5 @@
 pub mod Runs
+pub mod Tallies
 pub mod Gathering
 pub mod Acceptance
 pub mod Counts
