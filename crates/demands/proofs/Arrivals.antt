@@ -37,9 +37,11 @@ use Rattle.ring.specs.declared.answer.Carried.the-variants as case
 use Rattle.ring.proofs.Layouts.{round-bytes}
 use Rattle.ring.proofs.RoundTrip as ring-round
 use Rattle.slots.specs.declared.state.Receiver.{Receiver}
+use Rattle.slots.specs.State.{rightState}
+use Rattle.slots.specs.Changes.{withOffered}
 use Rattle.receiver.specs.Effects.{Unchanged, SlotFreed}
 use Rattle.receiver.specs.Step.{refused, stepOf}
-use Rattle.receiver.proofs.Laws.{refused-unchanged, refused-freed}
+use Rattle.receiver.proofs.Laws.{step-right, refused-uncounted, refused-counted, refused-freed}
 use Rattle.rack.specs.declared.answer.Beside.{Beside}
 use Rattle.rack.specs.declared.answer.Beside.the-variants.{Source, Notify, Next}
 use Rattle.rack.specs.Arrivals.{Arrival, Brought, Without, packet, none, brings, smbusBrings, pccBrings, ringBrings}
@@ -51,19 +53,32 @@ module _ (most : ℕ) (r : Receiver) (m : List ℕ) where
       → arrivedOf most r m (brings most a) ≡ record { told = nothing why; receiver = r; memory = m }
   none-leaves-all a why e = ap (arrivedOf most r m) e
 
-  pub rules-refused : (beside : Beside) (n : ℕ) (c : Brought) → arrivedOf most r m c .told ≡ given beside (refused n)
-      → (n ≡ 20 → ⊥) → (n ≡ 21 → ⊥) → (n ≡ 22 → ⊥)
-      → Unchanged r m (arrivedOf most r m c .receiver) (arrivedOf most r m c .memory)
-  rules-refused beside n (packet p k) e n20 n21 n22 = refused-unchanged most r m p n (cc) n20 n21 n22
-  rules-refused beside n (none why) e n20 n21 n22 = record { setup = refl; slots = refl; memory = refl }
+  -- what the rules refuse was a packet
+  a-packet : (beside : Beside) (n : ℕ) (why : Without) → nothing why ≡ given beside (refused n) → ⊥
+  a-packet beside n why e = let z : _≡_ {A = ℕ} 0 1 = cc in omega arith
+
+  pub rules-uncounted : (beside : Beside) (n : ℕ) (c : Brought) → arrivedOf most r m c .told ≡ given beside (refused n)
+      → n ≤ 2 → Unchanged r m (arrivedOf most r m c .receiver) (arrivedOf most r m c .memory)
+  rules-uncounted beside n (packet p k) e low = refused-uncounted most r m p n (cc) low
+  rules-uncounted beside n (none why) e low = absurd (a-packet beside n why e)
+
+  pub rules-counted : (beside : Beside) (n : ℕ) (c : Brought) → arrivedOf most r m c .told ≡ given beside (refused n)
+      → 3 ≤ n → n ≤ 19 → Unchanged (withOffered r) m (arrivedOf most r m c .receiver) (arrivedOf most r m c .memory)
+  rules-counted beside n (packet p k) e low high = refused-counted most r m p n (cc) low high
+  rules-counted beside n (none why) e low high = absurd (a-packet beside n why e)
+
+  -- a right state stays right, whatever the carrier made of the arrival
+  pub arrived-right : (c : Brought) → rightState most r ≡ true → rightState most (arrivedOf most r m c .receiver) ≡ true
+  arrived-right (packet p beside) e = step-right most r m p e
+  arrived-right (none why) e = e
 
   pub rules-freed : (p : List ℕ) (beside : Beside) (n : ℕ) (c : Brought) → c ≡ packet p beside
       → arrivedOf most r m c .told ≡ given beside (refused n)
-      → 20 ≤ n → SlotFreed (keyOf p) r m (arrivedOf most r m c .receiver) (arrivedOf most r m c .memory)
+      → 20 ≤ n → SlotFreed (keyOf p) (withOffered r) m (arrivedOf most r m c .receiver) (arrivedOf most r m c .memory)
   rules-freed p beside n c is e twenty =
       subst
       (λ (d : Brought). arrivedOf most r m d .told ≡ given beside (refused n)
-      → SlotFreed (keyOf p) r m (arrivedOf most r m d .receiver) (arrivedOf most r m d .memory))
+      → SlotFreed (keyOf p) (withOffered r) m (arrivedOf most r m d .receiver) (arrivedOf most r m d .memory))
       (sym is)
       (λ (t : given beside (stepOf most r m p .said) ≡ given beside (refused n)). refused-freed most r m p n
       (cc) twenty)

@@ -10,6 +10,7 @@ use Rattle.mmbi.specs.Interface.{stateOf}
 use Rattle.ring.specs.Numbers.{filledOf, roomOf}
 use Rattle.slots.specs.Slots.{firstOf, slotOf, lowestFree}
 use Rattle.slots.specs.State.{multiple, rightNumbers, rightSlot, clash, rightState}
+use Rattle.slots.specs.Tallies.{sumOf}
 use Rattle.decision.specs.Rules.{after, onStart, gathered, onFollow, ruled}
 use Rattle.decision.specs.Decision.{decided}
 use Rattle.receiver.specs.Step.{done, stepOf}
@@ -26,6 +27,7 @@ use Rattle.demands.proofs.Arrivals.{smbus-found}
 pub literal-done : stepOf 64 card empty literalPacket .said ≡ done 0 1 false
 unfolding stepOf decided ruled onStart onFollow gathered
     after slotOf lowestFree firstOf headerOf keyOf sameKey rightState rightSlot rightNumbers multiple clash laid
+    sumOf
 literal-done = refl
 
 pub literal-brought : brings 64 (bySmbus literalFrame 32) ≡ packet literalPacket (Source 17)
@@ -38,7 +40,7 @@ literal-arrival =
 pub numbers : Numbers
 unfolding polyStep eightSteps byteStep pecFrom pecOf filledOf roomOf stateOf run stepOf decided
     ruled onStart onFollow gathered after slotOf lowestFree firstOf headerOf
-    keyOf sameKey rightState rightSlot rightNumbers multiple clash laid
+    keyOf sameKey rightState rightSlot rightNumbers multiple clash laid sumOf
 numbers =
     record {
       pec-of-nothing = refl;

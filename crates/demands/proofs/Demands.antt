@@ -52,11 +52,11 @@ use Rattle.ring.proofs.Writings.{entered-not-1}
 use Rattle.slots.specs.declared.state.Receiver.{Receiver}
 use Rattle.slots.specs.declared.state.Setup.{Setup}
 use Rattle.slots.specs.State.{rightState}
-use Rattle.slots.specs.Changes.{fresh, freeRefusal, freedOf}
+use Rattle.slots.specs.Changes.{fresh, withOffered, freeRefusal, freedOf}
 use Rattle.slots.proofs.Changes.{freed-refused}
 use Rattle.receiver.specs.Effects.{Unchanged, SlotFreed}
 use Rattle.receiver.specs.Step.{refused, stepOf}
-use Rattle.receiver.proofs.Laws.{refused-unchanged, refused-freed}
+use Rattle.receiver.proofs.Laws as rules
 use Rattle.messages.specs.Run.{give, run, runPackets}
 use Rattle.messages.specs.Message.{Item, callsOf, Starts, OneMessage, Accepted, AcceptedAlone, slotFor}
 use Rattle.messages.proofs.Acceptance.{acceptance, single-accepted}
@@ -82,28 +82,39 @@ pub without-a-packet : (r : Receiver) (m : List ℕ) (a : Arrival) (why : Withou
     → arrival 64 r m a ≡ record { told = nothing why; receiver = r; memory = m }
 without-a-packet r m a why e = good.none-leaves-all 64 r m a why e
 
--- and where the message rules refuse, "but for the three refusals that free one slot (20, 21, 22)"
-pub refused-by-the-rules : (r : Receiver) (m : List ℕ) (a : Arrival) (beside : Beside) (n : ℕ)
-    → arrival 64 r m a .told ≡ given beside (refused n)
-    → (n ≡ 20 → ⊥) → (n ≡ 21 → ⊥) → (n ≡ 22 → ⊥) → Unchanged r m (arrival 64 r m a .receiver) (arrival 64 r m a .memory)
-refused-by-the-rules r m a beside n = good.rules-refused 64 r m beside n (brings 64 a)
+-- and where the message rules refuse with 1 or 2, which "count nothing" (document 02, #102)
+pub refused-uncounted : (r : Receiver) (m : List ℕ) (a : Arrival) (beside : Beside) (n : ℕ)
+    → arrival 64 r m a .told ≡ given beside (refused n) → n ≤ 2
+    → Unchanged r m (arrival 64 r m a .receiver) (arrival 64 r m a .memory)
+refused-uncounted r m a beside n = good.rules-uncounted 64 r m beside n (brings 64 a)
 
--- of which each frees the slot that has the packet's key, and no other, and leaves the memory
+-- "A packet refused with 3 or 15 to 22 counts as offered, and that tally is then the one further change to the
+-- receiver" (document 02, #102): with 3 and 15 to 19, the one change,
+pub refused-by-the-rules : (r : Receiver) (m : List ℕ) (a : Arrival) (beside : Beside) (n : ℕ)
+    → arrival 64 r m a .told ≡ given beside (refused n) → 3 ≤ n → n ≤ 19
+    → Unchanged (withOffered r) m (arrival 64 r m a .receiver) (arrival 64 r m a .memory)
+refused-by-the-rules r m a beside n = good.rules-counted 64 r m beside n (brings 64 a)
+
+-- "but for the three refusals that free one slot (20, 21, 22)": each frees the slot that has the packet's key, and no
+-- other, and leaves the memory
 pub refused-and-freed : (r : Receiver) (m p : List ℕ) (a : Arrival) (beside : Beside) (n : ℕ)
     → brings 64 a ≡ packet p beside
     → arrival 64 r m a .told ≡ given beside (refused n) → 20 ≤ n
-    → SlotFreed (keyOf p) r m (arrival 64 r m a .receiver) (arrival 64 r m a .memory)
+    → SlotFreed (keyOf p) (withOffered r) m (arrival 64 r m a .receiver) (arrival 64 r m a .memory)
 refused-and-freed r m p a beside n e = good.rules-freed 64 r m p beside n (brings 64 a) e
 
 -- a packet given to the message rules directly: the same
-pub given-and-refused : (r : Receiver) (m p : List ℕ) (n : ℕ) → stepOf 64 r m p .said ≡ refused n → (n ≡ 20 → ⊥)
-    → (n ≡ 21 → ⊥) → (n ≡ 22 → ⊥)
+pub given-uncounted : (r : Receiver) (m p : List ℕ) (n : ℕ) → stepOf 64 r m p .said ≡ refused n → n ≤ 2
     → Unchanged r m (stepOf 64 r m p .receiver) (stepOf 64 r m p .memory)
-given-and-refused = refused-unchanged 64
+given-uncounted = rules.refused-uncounted 64
+
+pub given-and-refused : (r : Receiver) (m p : List ℕ) (n : ℕ) → stepOf 64 r m p .said ≡ refused n → 3 ≤ n → n ≤ 19
+    → Unchanged (withOffered r) m (stepOf 64 r m p .receiver) (stepOf 64 r m p .memory)
+given-and-refused = rules.refused-counted 64
 
 pub given-and-freed : (r : Receiver) (m p : List ℕ) (n : ℕ) → stepOf 64 r m p .said ≡ refused n → 20 ≤ n
-    → SlotFreed (keyOf p) r m (stepOf 64 r m p .receiver) (stepOf 64 r m p .memory)
-given-and-freed = refused-freed 64
+    → SlotFreed (keyOf p) (withOffered r) m (stepOf 64 r m p .receiver) (stepOf 64 r m p .memory)
+given-and-freed = rules.refused-freed 64
 
 -- a slot that is refused to be freed: the receiver stays, and no memory is lent to the call
 pub not-freed : (r : Receiver) (i : ℕ) → (freeRefusal 64 r i ≡ 0 → ⊥) → freedOf 64 r i ≡ r

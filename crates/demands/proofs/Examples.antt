@@ -43,6 +43,7 @@ use Rattle.ring.specs.Reading as taking
 use Rattle.ring.specs.Writing as putting
 use Rattle.ring.proofs.Literal as image
 use Rattle.slots.specs.Changes.{freedOf}
+use Rattle.slots.proofs.Literal.{tallied}
 use Rattle.receiver.specs.Effects.{Unchanged, SlotFreed}
 use Rattle.receiver.specs.Step.{stepOf}
 use Rattle.messages.specs.Run.{give, run}
@@ -72,20 +73,30 @@ pub without-a-packet : arrival 64 card empty (bySmbus [] 32)
     ≡ record { told = nothing (carrier.refused 3); receiver = card; memory = empty }
 without-a-packet = demands.without-a-packet card empty (bySmbus [] 32) (carrier.refused 3) no-frame
 
--- document 01's frame, come to another EID
-pub refused-by-the-rules : Unchanged stranger empty (arrival 64 stranger empty (bySmbus literalFrame 32) .receiver)
+-- document 01's frame, come to a memory of no bytes
+pub refused-uncounted : Unchanged card [] (arrival 64 card [] (bySmbus literalFrame 32) .receiver)
+    (arrival 64 card [] (bySmbus literalFrame 32) .memory)
+refused-uncounted =
+    demands.refused-uncounted card [] (bySmbus literalFrame 32) (Source 17) 2
+    (ap (λ (c : Brought). arrivedOf 64 card [] c .told) literal-brought ∙ ap (given (Source 17)) (steps .no-memory))
+    (lit≤ tt)
+
+pub given-uncounted : Unchanged card [] (stepOf 64 card [] literalPacket .receiver)
+    (stepOf 64 card [] literalPacket .memory)
+given-uncounted = demands.given-uncounted card [] literalPacket 2 (steps .no-memory) (lit≤ tt)
+
+-- and to another EID: one packet was offered
+pub refused-by-the-rules : Unchanged (tallied 0 0 1 0 stranger) empty
+    (arrival 64 stranger empty (bySmbus literalFrame 32) .receiver)
     (arrival 64 stranger empty (bySmbus literalFrame 32) .memory)
 refused-by-the-rules =
     demands.refused-by-the-rules stranger empty (bySmbus literalFrame 32) (Source 17) 16
     (ap (λ (c : Brought). arrivedOf 64 stranger empty c .told) literal-brought
-    ∙ ap (given (Source 17)) (steps .not-ours))
-    (λ e. omega arith) (λ e. omega arith) (λ e. omega arith)
+    ∙ ap (given (Source 17)) (steps .not-ours)) (lit≤ tt) (lit≤ tt)
 
-pub given-and-refused : Unchanged stranger empty (stepOf 64 stranger empty literalPacket .receiver)
-    (stepOf 64 stranger empty literalPacket .memory)
-given-and-refused =
-    demands.given-and-refused stranger empty literalPacket 16 (steps .not-ours) (λ e. omega arith) (λ e. omega arith)
-    (λ e. omega arith)
+pub given-and-refused : Unchanged (tallied 0 0 1 0 stranger) empty
+    (stepOf 64 stranger empty literalPacket .receiver) (stepOf 64 stranger empty literalPacket .memory)
+given-and-refused = demands.given-and-refused stranger empty literalPacket 16 (steps .not-ours) (lit≤ tt) (lit≤ tt)
 
 -- sequence 0 where 1 is the next, by a region
 abbrev wrong : List ℕ
@@ -97,7 +108,7 @@ wrongRegion = regionFor 3 true wrong
 wrong-brought : brings 64 (byPcc wrongRegion 3) ≡ carrier.packet wrong (Notify true)
 wrong-brought = demands.every-packet-by-pcc wrong 3 true (all-bytes wrong tt) refl (lit≤ tt) .1
 
-pub refused-and-freed : SlotFreed (keyOf wrong) gathering empty
+pub refused-and-freed : SlotFreed (keyOf wrong) (tallied 1 1 2 0 gathering) empty
     (arrival 64 gathering empty (byPcc wrongRegion 3) .receiver)
     (arrival 64 gathering empty (byPcc wrongRegion 3) .memory)
 refused-and-freed =
@@ -105,8 +116,8 @@ refused-and-freed =
     (ap (λ (c : Brought). arrivedOf 64 gathering empty c .told) wrong-brought
     ∙ ap (given (Notify true)) (steps .not-next)) (lit≤ tt)
 
-pub given-and-freed : SlotFreed (keyOf wrong) gathering empty (stepOf 64 gathering empty wrong .receiver)
-    (stepOf 64 gathering empty wrong .memory)
+pub given-and-freed : SlotFreed (keyOf wrong) (tallied 1 1 2 0 gathering) empty
+    (stepOf 64 gathering empty wrong .receiver) (stepOf 64 gathering empty wrong .memory)
 given-and-freed = demands.given-and-freed gathering empty wrong 20 (steps .not-next) (lit≤ tt)
 
 -- slot 4, which no receiver has

@@ -4,11 +4,11 @@ use mathlib.Core.Path.{_≡_, refl, ap, sym, transport, _∙_}
 use mathlib.Core.Bool.{Bool, true, false}
 use mathlib.Core.List.{List, [], _∷_, _++_}
 use Prim.Native.Nat.{ℕ, zero, suc, _+_, _*_, _%_, _≤_, _<_}
-use native.Mathlib.Nat.{zero-add, zero-mul, one-mul}
+use native.Mathlib.Nat.{zero-add, zero-mul, one-mul, le-mul-of-pos-right}
 use native.Mathlib.Omega.{arith}
 use borrow.Author.Tests.{eqb-false, eq-eqb, ne-eqb, le-leb}
 use lib.Dec.{lit<, eqb, leb}
-use lib.ListN.{length, take, length-append, length-take}
+use lib.ListN.{length, take, set, length-append, length-take}
 use lib.Seq.{set-set}
 use Rattle.octets.specs.Bytes.{laid}
 use Rattle.octets.specs.Checks.{Hold}
@@ -19,18 +19,19 @@ use Rattle.mctp.specs.Packet.{bodyRight, versionOf, bodyOf, endOf, sequenceOf}
 use Rattle.mctp.specs.Eid.{endpointEid}
 use Rattle.mctp.specs.Key.{keyOf}
 use Rattle.slots.specs.declared.state.Setup.{Setup}
-use Rattle.slots.specs.declared.state.Slot.{Slot}
 use Rattle.slots.specs.declared.state.Receiver.{Receiver}
-use Rattle.slots.specs.declared.state.SlotState.{SlotState}
-use Rattle.slots.specs.declared.state.SlotState.the-variants.{Free, Gathering}
+use Rattle.slots.specs.declared.state.SlotState.the-variants.{Gathering}
 use Rattle.slots.specs.Setup.{rightSetup, oursOf}
 use Rattle.slots.specs.Slots.{firstOf, slotOf, lowestFree}
 use Rattle.slots.specs.State.{rightState}
-use Rattle.slots.specs.Changes.{fresh, withState}
+use Rattle.slots.specs.Tallies.{sumOf, gatheringIn, heldIn, nextTally}
+use Rattle.slots.specs.Changes.{freeSlot, fresh, withState, withOffered}
+use Rattle.slots.proofs.States.{right-of}
 use Rattle.slots.proofs.Changes.{fresh-right}
 use Rattle.decision.specs.Checks.{packetOrder, sourceOrder}
 use Rattle.decision.specs.Rules.{unitRight}
 use Rattle.receiver.specs.Step.{Said, held, done, Left, stepOf}
+use Rattle.receiver.proofs.Laws.{step-right}
 use Rattle.messages.specs.Run.{rules, messagesOf, Ran, ofStep, joined, run, runPackets}
 use Rattle.messages.specs.Message.{Starts, Follows, slotFor}
 use Rattle.messages.proofs.Gathering.{Gathers, middle-step, middle-gathers, end-step}
@@ -38,7 +39,7 @@ use Rattle.messages.proofs.Gathering.{start-held, start-done, start-gathers}
 use Rattle.sender.specs.declared.heading.Heading.{Heading}
 use Rattle.sender.specs.Cutting.{packetsIn, packetBody, packetAt, headingRight, messageRight}
 use Rattle.sender.specs.Whole.{along, allPackets}
-use Rattle.demands.specs.Sending.{replyTo, GivesMessage}
+use Rattle.demands.specs.Sending.{replyTo, idle, GivesMessage}
 use Rattle.sender.proofs.Cuts.{inside, counted}
 use Rattle.sender.proofs.Packets.{some-room, taken-next, body-full, body-sizes, taken-all, right-numbers}
 use Rattle.sender.proofs.Packets.{packet-body, packet-length, packet-key, packet-start, packet-end, packet-sequence}
@@ -62,9 +63,19 @@ packet-checked most most′ s heading message k right larger ours good h =
     let source = ap endpointEid (packet-source most heading message k good) ∙ right-numbers heading good .0 in
     (within-holds 5 (4 + most′) (length p) (omega arith) (omega arith), (version, (destination, (source, tt))))
 
--- slot 0 set, and then free
-freed-anew : (r : Receiver) (x : SlotState) → withState (withState r 0 x) 0 Free ≡ withState r 0 Free
-freed-anew r x = ap (λ (l : List Slot). record { setup = r .setup; slots = l }) (set-set (r .slots) 0 _ _)
+-- a right state whose slots are all free tells nothing held
+idle-of : (most : ℕ) (s : Setup) (r : Receiver) (packets messages : ℕ) → rightState most r ≡ true
+    → r .setup ≡ s → r .slots ≡ fresh s .slots → r .tallies .offered ≡ packets → r .tallies .done ≡ messages
+    → r ≡ idle s packets messages
+unfolding sumOf
+idle-of most s r packets messages right setup slots offered finished =
+    let gathering = right-of most r right .gathering ∙ ap gatheringIn slots in
+    let held = right-of most r right .held ∙ ap heldIn slots in
+    λ j. record {
+      setup = setup j;
+      slots = slots j;
+      tallies = record { gathering = gathering j; held = held j; offered = offered j; done = finished j };
+    }
 
 -- a message laid into slot 0 is read from there
 read-back : (m b : List ℕ) → length b ≤ length m → messagesOf (done 0 (length b) false) (laid m 0 b) ≡ b ∷ []
@@ -76,7 +87,7 @@ read-back m b h =
 record Gives (most : ℕ) (s : Setup) (m message : List ℕ) (k n : ℕ) (ran : Ran) : Type 0 where
   answers : ran .answers ≡ along (replyTo most (length message)) k n
   messages : ran .messages ≡ message ∷ []
-  receiver : ran .receiver ≡ fresh s
+  receiver : ran .receiver ≡ idle s (packetsIn most (length message)) 1
   memory : ran .memory ≡ laid m 0 message
 
 -- a call that leaves this much, on packet k
@@ -101,7 +112,7 @@ module _ (most : ℕ) (s : Setup) (m message : List ℕ) (k : ℕ) (l : Left) wh
 
   -- it is done with the last: nothing is left to come
   gives-last : length message ≤ length m → k + 1 ≡ packetsIn most (length message)
-      → l ≡ record { said = done 0 (length message) false; receiver = fresh s; memory = laid m 0 message }
+      → l ≡ record { said = done 0 (length message) false; receiver = idle s (k + 1) 1; memory = laid m 0 message }
       → Gives most s m message k 1
       (joined (ofStep l) (record { answers = []; messages = []; receiver = l .receiver; memory = l .memory }))
   unfolding along
@@ -114,7 +125,7 @@ module _ (most : ℕ) (s : Setup) (m message : List ℕ) (k : ℕ) (l : Left) wh
         messages =
             ap (λ (x : Left). messagesOf (x .said) (x .memory) ++ []) left
             ∙ ap (λ (b : List (List ℕ)). b ++ []) (read-back m message fits);
-        receiver = ap (λ (x : Left). x .receiver) left;
+        receiver = ap (λ (x : Left). x .receiver) left ∙ ap (λ (n : ℕ). idle s n 1) e;
         memory = ap (λ (x : Left). x .memory) left;
       }
 
@@ -139,11 +150,14 @@ module _ (most most′ : ℕ) (s : Setup) (m : List ℕ) (heading : Heading) (me
   some : 1 ≤ most
   some = some-room most right
 
-  -- packets 0 to k were given, and none of them is the last: slot 0 gathers, its bytes are their bodies, and nothing
-  -- else differs from what was there
+  -- packets 0 to k were given, and none of them is the last: slot 0 gathers, its bytes are their bodies, they are
+  -- counted, and nothing else differs from what was there
   record Under (k : ℕ) (r : Receiver) (now : List ℕ) : Type 0 where
     gathers : Gathers most′ r now (heading .key) 0 ((heading .first + k) % 4) most (upTo k)
-    freed : withState r 0 Free ≡ fresh s
+    setup : r .setup ≡ s
+    freed : set (r .slots) 0 freeSlot ≡ fresh s .slots
+    offered : r .tallies .offered ≡ suc k
+    done : r .tallies .done ≡ 0
     memory : now ≡ laid m 0 (upTo k)
 
   -- the next packet
@@ -154,13 +168,20 @@ module _ (most most′ : ℕ) (s : Setup) (m : List ℕ) (heading : Heading) (me
     abbrev left : Left
     left = stepOf most′ r now p
 
-    same-setup : r .setup ≡ s
-    same-setup = ap (λ (x : Receiver). x .setup) (U .freed)
-
     grown : upTo k ++ bodyOf p ≡ upTo (suc k)
     grown =
         ap (λ (b : List ℕ). upTo k ++ b) (packet-body most heading message (suc k))
         ∙ sym (taken-next most message (suc k))
+
+    -- one packet more is counted: a message has no more than 1,024
+    one-more : nextTally (r .tallies .offered) ≡ suc (suc k)
+    one-more =
+        omega (
+          arith,
+          U .offered,
+          inside most (length message) (suc k) some h,
+          le-mul-of-pos-right {m = most} (suc k) some,
+        )
 
     total : length (upTo k) + length (bodyOf p) ≡ length (upTo (suc k))
     total = sym (length-append (upTo k) (bodyOf p)) ∙ ap length grown
@@ -183,7 +204,7 @@ module _ (most most′ : ℕ) (s : Setup) (m : List ℕ) (heading : Heading) (me
     follows =
         record {
           checked =
-              packet-checked most most′ (r .setup) heading message (suc k) right larger (rw same-setup ours) good h;
+              packet-checked most most′ (r .setup) heading message (suc k) right larger (rw (U .setup) ours) good h;
           not-start = packet-start most heading message (suc k) good ∙ ne-eqb (suc k) 0 (λ e. omega arith);
           key = packet-key most heading message (suc k) good;
           sequence = packet-sequence most heading message (suc k) good ∙ omega arith;
@@ -200,7 +221,8 @@ module _ (most most′ : ℕ) (s : Setup) (m : List ℕ) (heading : Heading) (me
           ≡ record {
             said = held 0 (length (upTo k) + length (bodyOf p)) false;
             receiver =
-                withState r 0 (Gathering (heading .key) (sequenceOf p) most (length (upTo k) + length (bodyOf p)));
+                withState (withOffered r) 0
+                (Gathering (heading .key) (sequenceOf p) most (length (upTo k) + length (bodyOf p)));
             memory = laid now (1024 * 0 + length (upTo k)) (bodyOf p);
           }
       middle-left = middle-step most′ r now (heading .key) 0 _ most (upTo k) (U .gathers) p follows goes-on
@@ -219,20 +241,34 @@ module _ (most most′ : ℕ) (s : Setup) (m : List ℕ) (heading : Heading) (me
                 transport
                 (λ j. Gathers most′ (left .receiver) (left .memory) (heading .key) 0 (sequence j) most (grown j))
                 (middle-gathers most′ r now (heading .key) 0 _ most (upTo k) (U .gathers) p follows goes-on);
-            freed = ap (λ (l : Left). withState (l .receiver) 0 Free) middle-left ∙ freed-anew r _ ∙ U .freed;
+            setup = ap (λ (l : Left). l .receiver .setup) middle-left ∙ U .setup;
+            freed =
+                ap (λ (l : Left). set (l .receiver .slots) 0 freeSlot) middle-left
+                ∙ set-set (r .slots) 0 _ _
+                ∙ U .freed;
+            offered = ap (λ (l : Left). l .receiver .tallies .offered) middle-left ∙ one-more;
+            done = ap (λ (l : Left). l .receiver .tallies .done) middle-left ∙ U .done;
             memory = ap (λ (l : Left). l .memory) middle-left ∙ laid-on;
           }
 
     -- the last
     last-left : suc k + 1 ≡ count
-        → left ≡ record { said = done 0 (length message) false; receiver = fresh s; memory = laid m 0 message }
+        → left
+        ≡ record { said = done 0 (length message) false; receiver = idle s (suc k + 1) 1; memory = laid m 0 message }
     last-left last =
         let ends = packet-end most heading message (suc k) good ∙ eq-eqb (suc k + 1) count last in
         let all = taken-all most message (suc k) some last in
         let bytes = total ∙ ap length all in
-        let memory = laid-on ∙ ap (laid m 0) all in
-        end-step most′ r now (heading .key) 0 _ most (upTo k) (U .gathers) p follows ends
-        ∙ (λ j. record { said = done 0 (bytes j) false; receiver = U .freed j; memory = memory j })
+        let step = end-step most′ r now (heading .key) 0 _ most (upTo k) (U .gathers) p follows ends in
+        let said = ap (λ (l : Left). l .said) step ∙ ap (λ (n : ℕ). done 0 n false) bytes in
+        let memory = ap (λ (l : Left). l .memory) step ∙ laid-on ∙ ap (laid m 0) all in
+        let receiver =
+        idle-of most′ s (left .receiver) (suc k + 1) 1 (step-right most′ r now p (U .gathers .right))
+        (ap (λ (l : Left). l .receiver .setup) step ∙ U .setup)
+        (ap (λ (l : Left). l .receiver .slots) step ∙ U .freed)
+        (ap (λ (l : Left). l .receiver .tallies .offered) step ∙ one-more ∙ omega arith)
+        (ap (λ (l : Left). l .receiver .tallies .done) step ∙ ap nextTally (U .done)) in
+        λ j. record { said = said j; receiver = receiver j; memory = memory j }
 
   -- the packets after packet k, one more than n of them
   rest-gives : (n k : ℕ) (r : Receiver) (now : List ℕ) → Under k r now → suc k + suc n ≡ count
@@ -278,7 +314,7 @@ module _ (most most′ : ℕ) (s : Setup) (m : List ℕ) (heading : Heading) (me
           ≡ record {
             said = held 0 (length (bodyOf (packet 0))) false;
             receiver =
-                withState (fresh s) 0
+                withState (withOffered (fresh s)) 0
                 (Gathering (keyOf (packet 0)) (sequenceOf (packet 0)) (length (bodyOf (packet 0)))
                 (length (bodyOf (packet 0))));
             memory = laid m 0 (bodyOf (packet 0));
@@ -302,19 +338,29 @@ module _ (most most′ : ℕ) (s : Setup) (m : List ℕ) (heading : Heading) (me
                 (λ j. Gathers most′ (begun .receiver) (begun .memory) (key j) 0 (sequence j) (first-size j)
                 (first-body j))
                 (start-gathers most′ (fresh s) m (packet 0) state size starts (lit< tt) first-goes-on);
-            freed = ap (λ (l : Left). withState (l .receiver) 0 Free) first-left;
+            setup = ap (λ (l : Left). l .receiver .setup) first-left;
+            freed = ap (λ (l : Left). set (l .receiver .slots) 0 freeSlot) first-left;
+            offered = ap (λ (l : Left). l .receiver .tallies .offered) first-left;
+            done = ap (λ (l : Left). l .receiver .tallies .done) first-left;
             memory = ap (λ (l : Left). l .memory) first-left ∙ ap (laid m 0) first-body;
           }
 
     -- where it is the last too
     alone-left : 0 + 1 ≡ count
-        → begun ≡ record { said = done 0 (length message) false; receiver = fresh s; memory = laid m 0 message }
+        → begun
+        ≡ record { said = done 0 (length message) false; receiver = idle s (0 + 1) 1; memory = laid m 0 message }
     unfolding slotFor slotOf lowestFree firstOf
     alone-left last =
         let ends = packet-end most heading message 0 good ∙ eq-eqb (0 + 1) count last in
         let all = first-body ∙ taken-all most message 0 some last in
-        start-done most′ (fresh s) m (packet 0) state size starts (lit< tt) ends
-        ∙ (λ j. record { said = done 0 (length (all j)) false; receiver = fresh s; memory = laid m 0 (all j) })
+        let step = start-done most′ (fresh s) m (packet 0) state size starts (lit< tt) ends in
+        let said = ap (λ (l : Left). l .said) step ∙ ap (λ (b : List ℕ). done 0 (length b) false) all in
+        let memory = ap (λ (l : Left). l .memory) step ∙ ap (laid m 0) all in
+        let receiver =
+        idle-of most′ s (begun .receiver) (0 + 1) 1 (step-right most′ (fresh s) m (packet 0) state)
+        (ap (λ (l : Left). l .receiver .setup) step) (ap (λ (l : Left). l .receiver .slots) step)
+        (ap (λ (l : Left). l .receiver .tallies .offered) step) (ap (λ (l : Left). l .receiver .tallies .done) step) in
+        λ j. record { said = said j; receiver = receiver j; memory = memory j }
 
     all-give : (n : ℕ) → n ≡ count → Gives most s m message 0 n (runPackets most′ (fresh s) m (along packet 0 n))
     unfolding run along
@@ -326,7 +372,8 @@ module _ (most most′ : ℕ) (s : Setup) (m : List ℕ) (heading : Heading) (me
         (rest-gives n 0 (begun .receiver) (begun .memory) (first-under more) (omega arith))
 
 -- all packets of a message, fed in order to a receiver just set up that the destination is for: held, held, .., done;
--- the message and nothing else; every slot free again; and of the memory the front alone changes
+-- the message and nothing else; every slot free again, the packets counted and one message done; and of the memory the
+-- front alone changes
 pub fed-in-order : (most most′ : ℕ) (s : Setup) (m : List ℕ) (heading : Heading) (message : List ℕ)
     → bodyRight most ≡ true
     → bodyRight most′ ≡ true

@@ -16,7 +16,7 @@ use Rattle.pcc.specs.Writing as regions
 use Rattle.mmbi.specs.Interface.{normalRuntime, stateOf}
 use Rattle.ring.specs.Writing as rings
 use Rattle.slots.specs.declared.state.Setup.{Setup}
-use Rattle.slots.specs.Changes.{fresh}
+use Rattle.slots.specs.Changes.{freeSlot, fresh}
 use Rattle.decision.specs.Checks.{packetOrder, sourceOrder}
 use Rattle.receiver.specs.Step.{held, done}
 use Rattle.messages.specs.Run.{rules, runPackets}
@@ -102,7 +102,13 @@ three-answers = they-give-that-message .answers
 pub one-message : runPackets 64 (fresh nine) empty (allPackets 64 answering message130) .messages ≡ message130 ∷ []
 one-message = they-give-that-message .messages
 
-pub all-free : runPackets 64 (fresh nine) empty (allPackets 64 answering message130) .receiver ≡ fresh nine
+-- every slot is free, three packets were offered, one message is done
+pub all-free : runPackets 64 (fresh nine) empty (allPackets 64 answering message130) .receiver
+    ≡ record {
+      setup = nine;
+      slots = replicate 4 freeSlot;
+      tallies = record { gathering = 0; held = 0; offered = 3; done = 1 };
+    }
 all-free = they-give-that-message .receiver
 
 pub front-alone : runPackets 64 (fresh nine) empty (allPackets 64 answering message130) .memory

@@ -15,6 +15,7 @@ use Rattle.slots.specs.declared.state.Receiver.{Receiver}
 use Rattle.slots.specs.declared.state.SlotState.the-variants.{Free, Gathering}
 use Rattle.slots.specs.Slots.{slotAt, isFree, firstOf, slotOf, lowestFree}
 use Rattle.slots.specs.State.{multiple, rightNumbers, rightSlot, clash, rightState}
+use Rattle.slots.specs.Tallies.{sumOf}
 use Rattle.slots.specs.Changes.{fresh, freeRefusal}
 use Rattle.decision.specs.Rules.{after, onStart, gathered, onFollow, ruled}
 use Rattle.decision.specs.Decision.{decided}
@@ -41,6 +42,7 @@ gathering =
           ∷ record { state = Free }
           ∷ record { state = Free }
           ∷ [];
+      tallies = record { gathering = 1; held = 1; offered = 1; done = 0 };
     }
 
 -- document 01's message of 130, with a packet of another key, one that is refused and a slot freed between its packets
@@ -58,18 +60,25 @@ pub record Steps : Type 0 where
   pub second-laid : getD (stepOf 64 gathering empty (packetWith 0x50 1 7) .memory) 1 0 ≡ 7
   pub held-one : stepOf 64 card empty (packetWith 0x80 1 7) .said ≡ held 0 1 false
   pub held-two : stepOf 64 card empty (packetWith 0x80 2 7) .said ≡ held 0 2 false
+  pub no-memory : stepOf 64 card [] literalPacket .said ≡ refused 2
   pub not-ours : stepOf 64 stranger empty literalPacket .said ≡ refused 16
   pub not-next : stepOf 64 gathering empty (packetWith 0x00 1 7) .said ≡ refused 20
   pub one-packet : Starts 64 (card .setup) literalPacket
   pub room : slotFor (card .slots) (keyOf literalPacket) ≡ 0
   pub right : rightState 64 card ≡ true
+  pub right-gathering : rightState 64 gathering ≡ true
+  pub begun-again : Starts 64 (gathering .setup) (packetWith 0x80 2 7)
+  pub its-slot : slotAt (gathering .slots) 0 ≡ Gathering (keyOf (packetWith 0x80 2 7)) 0 1 1
+  pub start-told : stepOf 64 card empty (packetWith 0x80 1 7) .receiver .tallies ≡ gathering .tallies
+  pub done-told : stepOf 64 card empty (packetWith 0xC0 1 7) .receiver .tallies
+      ≡ record { gathering = 0; held = 0; offered = 1; done = 1 }
   pub no-slot : freeRefusal 64 card 4 ≡ 1
   pub whole : OneMessage 64 card empty (packetWith 0xBD 64 1) middles (packetWith 0x5D 2 3)
 
 pub steps : Steps
 unfolding stepOf decided ruled onStart onFollow gathered
     after slotOf lowestFree firstOf headerOf keyOf sameKey rightState rightSlot rightNumbers multiple clash laid
-    freeRefusal
+    freeRefusal sumOf
     slotFor Middles
 steps =
     record {
@@ -78,11 +87,17 @@ steps =
       second-laid = refl;
       held-one = refl;
       held-two = refl;
+      no-memory = refl;
       not-ours = refl;
       not-next = refl;
       one-packet = record { checked = (refl, (refl, (refl, (refl, tt)))); start = refl };
       room = refl;
       right = refl;
+      right-gathering = refl;
+      begun-again = record { checked = (refl, (refl, (refl, (refl, tt)))); start = refl };
+      its-slot = refl;
+      start-told = refl;
+      done-told = refl;
       no-slot = refl;
       whole =
           record {
