@@ -57,6 +57,7 @@ use Rattle.descriptor.proofs.read_descriptor.Reads as read-descriptor
 use Rattle.mctp.specs.Refusals.{outcomeNumber}
 use Rattle.slots.specs.Changes.{setUpRefusal, setUpOf}
 use Rattle.slots.proofs.set_up.Reads as set-up
+use Rattle.slots.proofs.tallies_of.Reads as tallies-of
 use Rattle.window.specs.Places.{refusalOf, placeIn, areaOf}
 use Rattle.window.specs.Words.{interfaceIn, storeRefusal, stored, storedPointer, storedFlags}
 use Rattle.window.proofs.refusal.Reads as window-refusal
@@ -256,3 +257,7 @@ pub set-up-is : (κs : Lfts 0) (a r e : _) → set-up.Post κs a r e
     → (outcomeNumber (r .outcome) ≡ setUpRefusal (record { own = a .0 }))
     × (r .receiver ≡ setUpOf (record { own = a .0 }))
 set-up-is κs a r e p = p
+
+-- a receiver's four tallies, as they are stored
+pub tallies-of-is : (κs : Lfts 0) (a r e : _) → tallies-of.Post κs a r e → r ≡ a .0 .tallies
+tallies-of-is κs a r e p = p

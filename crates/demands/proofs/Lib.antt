@@ -9,6 +9,8 @@ pub mod ResetExamples
 pub mod Fed
 pub mod Ways
 pub mod Demands
+pub mod Tallies
+pub mod TallyExamples
 pub mod Sending
 pub mod SendingExamples
 pub mod Calls

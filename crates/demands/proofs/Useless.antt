@@ -1,5 +1,6 @@
--- The useless builds of document 01 ("Shutting out empty work"), each shut out: a build with that behaviour that meets
--- the contract's own equation is a contradiction. A build is what a call leaves of every input.
+-- The useless builds of document 01 ("Shutting out empty work") and of document 02, #102, each shut out: a build with
+-- that behaviour that meets the contract's own equation is a contradiction. A build is what a call leaves of every
+-- input.
 -- Assumes nothing.
 use mathlib.Core.Path.{_≡_, refl, ap, sym, _∙_}
 use mathlib.Core.Bool.{Bool, true, false, false≢true}
@@ -16,8 +17,10 @@ use Rattle.mmbi.specs.declared.interface.Flags.{Flags}
 use Rattle.mmbi.specs.Interface.{stateOf, mayRead}
 use Rattle.ring.specs.Layout.{wholeFor}
 use Rattle.ring.specs.Runs.{arrivalRing}
+use Rattle.slots.specs.declared.state.Tallies.{Tallies}
 use Rattle.slots.specs.declared.state.Receiver.{Receiver}
 use Rattle.slots.specs.Slots.{slotAt, isFree}
+use Rattle.slots.proofs.Literal.{tallied}
 use Rattle.receiver.specs.Step as rules
 use Rattle.rack.specs.declared.answer.Beside.{Beside}
 use Rattle.rack.specs.Arrivals.{Arrival, bySmbus, byPcc, byRing, Brought, Without, packet, brings}
@@ -142,6 +145,39 @@ module _ (build : Receiver → List ℕ → List ℕ → rules.Left)
       all card empty (packetWith 0x80 2 7) 0 2 false
       (said card empty (packetWith 0x80 2 7) (rules.held 0 2 false) (steps .held-two)) in
       omega arith
+
+  -- one that leaves a tally at 0 for ever: of slots gathering, of bytes held, of packets offered or of messages done
+  told : (tally : Tallies → ℕ) (p : List ℕ) → tally (rules.stepOf 64 card empty p .receiver .tallies) ≡ 1
+      → ((r : Receiver) (m p : List ℕ) → tally (build r m p .receiver .tallies) ≡ 0) → ⊥
+  told tally p one all =
+      let none = all card empty p in
+      let same = ap (λ (l : rules.Left). tally (l .receiver .tallies)) (meets card empty p) in
+      omega (arith, one, none, same)
+
+  pub no-slot-ever-gathers : ((r : Receiver) (m p : List ℕ) → build r m p .receiver .tallies .gathering ≡ 0) → ⊥
+  no-slot-ever-gathers =
+      told (λ (t : Tallies). t .gathering) (packetWith 0x80 1 7)
+      (ap (λ (t : Tallies). t .gathering) (steps .start-told))
+
+  pub no-byte-is-ever-held : ((r : Receiver) (m p : List ℕ) → build r m p .receiver .tallies .held ≡ 0) → ⊥
+  no-byte-is-ever-held =
+      told (λ (t : Tallies). t .held) (packetWith 0x80 1 7) (ap (λ (t : Tallies). t .held) (steps .start-told))
+
+  pub no-packet-is-ever-offered : ((r : Receiver) (m p : List ℕ) → build r m p .receiver .tallies .offered ≡ 0) → ⊥
+  no-packet-is-ever-offered =
+      told (λ (t : Tallies). t .offered) (packetWith 0x80 1 7) (ap (λ (t : Tallies). t .offered) (steps .start-told))
+
+  pub no-message-is-ever-done : ((r : Receiver) (m p : List ℕ) → build r m p .receiver .tallies .done ≡ 0) → ⊥
+  no-message-is-ever-done =
+      told (λ (t : Tallies). t .done) (packetWith 0xC0 1 7) (ap (λ (t : Tallies). t .done) (steps .done-told))
+
+-- A build of the call that tells the tallies: one that tells 0 for ever, of whichever of the four.
+pub tells-0-for-ever : (build : Receiver → Tallies) → ((r : Receiver) → build r ≡ r .tallies)
+    → (tally : Tallies → ℕ) → tally (record { gathering = 1; held = 1; offered = 1; done = 1 }) ≡ 1
+    → ((r : Receiver) → tally (build r) ≡ 0) → ⊥
+tells-0-for-ever build meets tally one all =
+    let r = tallied 1 1 1 1 card in
+    omega (arith, one, all r, ap tally (meets r))
 
 -- ".. or packet count fails since .. packets is counted by 2's layouts.": a build is the state that the transcript's
 -- calls leave after some frames
