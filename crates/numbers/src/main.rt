@@ -5,6 +5,7 @@ mod headers;
 mod keys;
 mod messages;
 mod packets;
+mod panel;
 mod paths;
 mod regions;
 mod sending;
@@ -12,7 +13,7 @@ mod states;
 mod text;
 
 // What was tried, line by line, and a mark for what came of it: a byte of 0x80 or more.
-const PAGE: [u8; 1665] = *b"SMBus
+const PAGE: [u8; 2028] = *b"SMBus
 smbus frame of 9 bytes: \x80
 smbus frame of 10 bytes: \x81
 smbus frame of 73 bytes: \x82
@@ -66,6 +67,17 @@ fifth key after slot 2 is freed: \xC5
 fifth key started over: \xC6
 slot 3 freed: \xC7
 slot 4 freed: \xC8
+
+The front panel at EID 9, with bodies of 64 bytes
+panel at set-up: \xE8
+panel after a start: \xE9
+panel after the same start again: \xEA
+panel after a start of another key: \xEB
+panel after a middle of the first: \xEC
+panel after a packet without a start: \xED
+panel after one of the second out of sequence: \xEE
+panel after slot 0 is freed: \xEF
+panel after a message of one packet: \xFD
 
 Messages sent from EID 10 to EID 9, tag owner, tag 5, first sequence 3
 message of 0 bytes: \xD0
@@ -147,6 +159,15 @@ fn tell_trial(mark: u8) {
         0xE0 => paths::tell_smbus(),
         0xE1 => paths::tell_pcc(),
         0xE2 => paths::tell_ring(),
+        0xE8 => panel::tell_after(0),
+        0xE9 => panel::tell_after(1),
+        0xEA => panel::tell_after(2),
+        0xEB => panel::tell_after(3),
+        0xEC => panel::tell_after(4),
+        0xED => panel::tell_after(5),
+        0xEE => panel::tell_after(6),
+        0xEF => panel::tell_after(7),
+        0xFD => panel::tell_after(8),
         _ => tell_sending(mark),
     }
 }
