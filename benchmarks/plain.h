@@ -25,6 +25,7 @@ struct slot {
 struct receiver {
     uint8_t own;
     struct slot slots[4];
+    uint32_t gathering, held, offered, done;
 };
 
 /* filled once, from the polynomial */
@@ -88,9 +89,17 @@ static int state_right(const struct receiver *r)
 {
     if ((r->own >= 1 && r->own <= 7) || r->own == 255)
         return 0;
-    for (int i = 0; i < 4; i++)
+    uint32_t gathering = 0, held = 0;
+    for (int i = 0; i < 4; i++) {
         if (!slot_right(r, &r->slots[i]))
             return 0;
+        if (r->slots[i].gathering) {
+            gathering++;
+            held += r->slots[i].held;
+        }
+    }
+    if (r->gathering != gathering || r->held != held)
+        return 0;
     for (int i = 0; i < 4; i++)
         for (int j = i + 1; j < 4; j++)
             if (r->slots[i].gathering && r->slots[j].gathering && same_key(r->slots[i].key, r->slots[j].key))
@@ -103,16 +112,36 @@ static struct answer refused(unsigned number)
     return (struct answer){REFUSED, 0, number, 0};
 }
 
+/* stops at the last number */
+static void count(uint32_t *tally)
+{
+    if (*tally < UINT32_MAX)
+        ++*tally;
+}
+
+/* the slot becomes free, and leaves the tallies */
+static void release(struct receiver *r, struct slot *s)
+{
+    if (!s->gathering)
+        return;
+    s->gathering = 0;
+    r->gathering--;
+    r->held -= s->held;
+}
+
 static struct answer put(struct receiver *r, uint8_t *memory, unsigned i, struct key key, const uint8_t *p, size_t body, uint32_t before, uint32_t unit, int again)
 {
     struct slot *s = &r->slots[i];
     memcpy(memory + i * 1024 + before, p + 4, body);
     uint32_t held = before + (uint32_t)body;
+    release(r, s);
     if (p[3] & 0x40) {
-        s->gathering = 0;
+        count(&r->done);
         return (struct answer){DONE, i, held, again};
     }
     *s = (struct slot){1, key, (p[3] >> 4) & 3, unit, held};
+    r->gathering++;
+    r->held += held;
     return (struct answer){HELD, i, held, again};
 }
 
@@ -122,6 +151,7 @@ static struct answer give(struct receiver *r, uint8_t *memory, size_t size, cons
         return refused(1);
     if (size != 4096)
         return refused(2);
+    count(&r->offered);
     if (n < 5 || n > 68)
         return refused(3);
     if ((p[0] & 15) != 1)
@@ -155,7 +185,7 @@ static struct answer give(struct receiver *r, uint8_t *memory, size_t size, cons
     else if (s->held + body > 1024)
         number = 22;
     if (number) {
-        s->gathering = 0;
+        release(r, s);
         return refused(number);
     }
     return put(r, memory, i, key, p, body, s->held, s->unit, 0);
