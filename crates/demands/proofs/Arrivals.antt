@@ -63,9 +63,10 @@ module _ (most : ℕ) (r : Receiver) (m : List ℕ) where
   rules-uncounted beside n (none why) e low = absurd (a-packet beside n why e)
 
   pub rules-counted : (beside : Beside) (n : ℕ) (c : Brought) → arrivedOf most r m c .told ≡ given beside (refused n)
-      → 3 ≤ n → n ≤ 19 → Unchanged (withOffered r) m (arrivedOf most r m c .receiver) (arrivedOf most r m c .memory)
-  rules-counted beside n (packet p k) e low high = refused-counted most r m p n (cc) low high
-  rules-counted beside n (none why) e low high = absurd (a-packet beside n why e)
+      → 3 ≤ n → (n ≡ 20 → ⊥) → (n ≡ 21 → ⊥) → (n ≡ 22 → ⊥)
+      → Unchanged (withOffered r) m (arrivedOf most r m c .receiver) (arrivedOf most r m c .memory)
+  rules-counted beside n (packet p k) e low n20 n21 n22 = refused-counted most r m p n (cc) low n20 n21 n22
+  rules-counted beside n (none why) e low n20 n21 n22 = absurd (a-packet beside n why e)
 
   -- a right state stays right, whatever the carrier made of the arrival
   pub arrived-right : (c : Brought) → rightState most r ≡ true → rightState most (arrivedOf most r m c .receiver) ≡ true

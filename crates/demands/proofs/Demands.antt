@@ -91,7 +91,7 @@ refused-uncounted r m a beside n = good.rules-uncounted 64 r m beside n (brings 
 -- "A packet refused with 3 or 15 to 22 counts as offered, and that tally is then the one further change to the
 -- receiver" (document 02, #102): with 3 and 15 to 19, the one change,
 pub refused-by-the-rules : (r : Receiver) (m : List ℕ) (a : Arrival) (beside : Beside) (n : ℕ)
-    → arrival 64 r m a .told ≡ given beside (refused n) → 3 ≤ n → n ≤ 19
+    → arrival 64 r m a .told ≡ given beside (refused n) → 3 ≤ n → (n ≡ 20 → ⊥) → (n ≡ 21 → ⊥) → (n ≡ 22 → ⊥)
     → Unchanged (withOffered r) m (arrival 64 r m a .receiver) (arrival 64 r m a .memory)
 refused-by-the-rules r m a beside n = good.rules-counted 64 r m beside n (brings 64 a)
 
@@ -108,7 +108,8 @@ pub given-uncounted : (r : Receiver) (m p : List ℕ) (n : ℕ) → stepOf 64 r 
     → Unchanged r m (stepOf 64 r m p .receiver) (stepOf 64 r m p .memory)
 given-uncounted = rules.refused-uncounted 64
 
-pub given-and-refused : (r : Receiver) (m p : List ℕ) (n : ℕ) → stepOf 64 r m p .said ≡ refused n → 3 ≤ n → n ≤ 19
+pub given-and-refused : (r : Receiver) (m p : List ℕ) (n : ℕ) → stepOf 64 r m p .said ≡ refused n → 3 ≤ n
+    → (n ≡ 20 → ⊥) → (n ≡ 21 → ⊥) → (n ≡ 22 → ⊥)
     → Unchanged (withOffered r) m (stepOf 64 r m p .receiver) (stepOf 64 r m p .memory)
 given-and-refused = rules.refused-counted 64
 

@@ -3,7 +3,7 @@
 use mathlib.Core.Path.{_≡_, refl, ap, _∙_}
 use mathlib.Core.Bool.{Bool, true, false}
 use mathlib.Core.List.{List, [], _∷_, _++_, map}
-use Prim.Native.Nat.{ℕ, _+_}
+use Prim.Native.Nat.{ℕ, _+_, _<_}
 use native.Mathlib.Omega.{arith}
 use lib.Dec.{lit≤}
 use lib.ListN.{length, take, drop, replicate}
@@ -42,7 +42,9 @@ use Rattle.ring.specs.Round.{roundFrom, stored}
 use Rattle.ring.specs.Reading as taking
 use Rattle.ring.specs.Writing as putting
 use Rattle.ring.proofs.Literal as image
-use Rattle.slots.specs.Changes.{freedOf}
+use Rattle.slots.specs.declared.state.SlotState.the-variants.{Free}
+use Rattle.slots.specs.Slots.{slotAt, hasKey}
+use Rattle.slots.specs.Changes.{withState, freedOf}
 use Rattle.slots.proofs.Literal.{tallied}
 use Rattle.receiver.specs.Effects.{Unchanged, SlotFreed}
 use Rattle.receiver.specs.Step.{stepOf}
@@ -92,11 +94,18 @@ pub refused-by-the-rules : Unchanged (tallied 0 0 1 0 stranger) empty
 refused-by-the-rules =
     demands.refused-by-the-rules stranger empty (bySmbus literalFrame 32) (Source 17) 16
     (ap (λ (c : Brought). arrivedOf 64 stranger empty c .told) literal-brought
-    ∙ ap (given (Source 17)) (steps .not-ours)) (lit≤ tt) (lit≤ tt)
+    ∙ ap (given (Source 17)) (steps .not-ours)) (lit≤ tt) (λ e. omega arith) (λ e. omega arith) (λ e. omega arith)
 
 pub given-and-refused : Unchanged (tallied 0 0 1 0 stranger) empty
     (stepOf 64 stranger empty literalPacket .receiver) (stepOf 64 stranger empty literalPacket .memory)
-given-and-refused = demands.given-and-refused stranger empty literalPacket 16 (steps .not-ours) (lit≤ tt) (lit≤ tt)
+given-and-refused =
+    demands.given-and-refused stranger empty literalPacket 16 (steps .not-ours) (lit≤ tt) (λ e. omega arith)
+    (λ e. omega arith) (λ e. omega arith)
+
+-- which says: the whole receiver, and the memory
+pub one-offered : (stepOf 64 stranger empty literalPacket .receiver ≡ tallied 0 0 1 0 stranger)
+    × (stepOf 64 stranger empty literalPacket .memory ≡ empty)
+one-offered = (given-and-refused .receiver, given-and-refused .memory)
 
 -- sequence 0 where 1 is the next, by a region
 abbrev wrong : List ℕ
@@ -119,6 +128,14 @@ refused-and-freed =
 pub given-and-freed : SlotFreed (keyOf wrong) (tallied 1 1 2 0 gathering) empty
     (stepOf 64 gathering empty wrong .receiver) (stepOf 64 gathering empty wrong .memory)
 given-and-freed = demands.given-and-freed gathering empty wrong 20 (steps .not-next) (lit≤ tt)
+
+-- which says: a slot of the four that has the key, the whole receiver, and the memory
+pub one-freed : (i : ℕ) × (i < 4) × (hasKey (keyOf wrong) (slotAt (gathering .slots) i) ≡ true)
+    × (stepOf 64 gathering empty wrong .receiver ≡ withState (tallied 1 1 2 0 gathering) i Free)
+    × (stepOf 64 gathering empty wrong .memory ≡ empty)
+one-freed =
+    let f = given-and-freed in
+    (f .slot, f .one-of-four, f .has-the-key, f .receiver, f .memory)
 
 -- slot 4, which no receiver has
 pub not-freed : freedOf 64 card 4 ≡ card

@@ -69,6 +69,8 @@ pub record Steps : Type 0 where
   pub right-gathering : rightState 64 gathering ≡ true
   pub begun-again : Starts 64 (gathering .setup) (packetWith 0x80 2 7)
   pub its-slot : slotAt (gathering .slots) 0 ≡ Gathering (keyOf (packetWith 0x80 2 7)) 0 1 1
+  pub ended-at-once : Starts 64 (gathering .setup) (packetWith 0xC0 3 7)
+  pub its-slot-then : slotAt (gathering .slots) 0 ≡ Gathering (keyOf (packetWith 0xC0 3 7)) 0 1 1
   pub start-told : stepOf 64 card empty (packetWith 0x80 1 7) .receiver .tallies ≡ gathering .tallies
   pub done-told : stepOf 64 card empty (packetWith 0xC0 1 7) .receiver .tallies
       ≡ record { gathering = 0; held = 0; offered = 1; done = 1 }
@@ -96,6 +98,8 @@ steps =
       right-gathering = refl;
       begun-again = record { checked = (refl, (refl, (refl, (refl, tt)))); start = refl };
       its-slot = refl;
+      ended-at-once = record { checked = (refl, (refl, (refl, (refl, tt)))); start = refl };
+      its-slot-then = refl;
       start-told = refl;
       done-told = refl;
       no-slot = refl;

@@ -30,7 +30,7 @@ use Rattle.messages.specs.Run.{Call, called, run, runPackets}
 use Rattle.messages.specs.Message.{Starts, slotFor}
 use Rattle.messages.specs.Tallies.{SlotsTold, Shows}
 use Rattle.messages.proofs.Runs.{called-right}
-use Rattle.messages.proofs.Gathering.{start-held}
+use Rattle.messages.proofs.Gathering.{start-held, start-done}
 use Rattle.messages.proofs.Acceptance.{room-of-key}
 use Rattle.messages.proofs.Tallies.{slots-told, panel, run-offered, run-done}
 use Rattle.rack.specs.Arrivals.{Arrival, brings}
@@ -130,7 +130,8 @@ a-slot-freed-leaves-the-tallies r i k q u h right low gathers =
       refl,
     )
 
--- a start that drops a half-message moves the bytes held by the difference, and is one packet more
+-- a start that drops a half-message, and isn't its end too, moves the bytes held by the difference, and is one packet
+-- more
 pub a-restart-moves-by-the-difference : (r : Receiver) (m p : List ℕ) (i q u h : ℕ) → rightState 64 r ≡ true
     → length m ≡ 4096 → Starts 64 (r .setup) p → endOf p ≡ false
     → i < 4 → slotAt (r .slots) i ≡ Gathering (keyOf p) q u h
@@ -149,6 +150,30 @@ a-restart-moves-by-the-difference r m p i q u h right sized starts goes-on low g
     let moves = tallies-move 64 (withOffered r) i then (right-of 64 (withOffered r) (offered-right 64 r right))
     (right-of 64 (withState (withOffered r) i then)
     (subst (λ (x : Receiver). rightState 64 x ≡ true) step (step-right 64 r m p right))) low in
+    rw step (
+      omega (arith, moves .0, ap oneGathering gathers),
+      omega (arith, moves .1, ap bytesHeld gathers),
+      refl,
+      refl,
+    )
+
+-- one that is the end too leaves no byte of it, and is one message more
+pub a-restart-that-ends : (r : Receiver) (m p : List ℕ) (i q u h : ℕ) → rightState 64 r ≡ true
+    → length m ≡ 4096 → Starts 64 (r .setup) p → endOf p ≡ true
+    → i < 4 → slotAt (r .slots) i ≡ Gathering (keyOf p) q u h
+    → let after = stepOf 64 r m p .receiver in
+    (after .tallies .gathering + 1 ≡ r .tallies .gathering) × (after .tallies .held + h ≡ r .tallies .held)
+    × (after .tallies .offered ≡ nextTally (r .tallies .offered))
+    × (after .tallies .done ≡ nextTally (r .tallies .done))
+a-restart-that-ends r m p i q u h right sized starts ends low gathers =
+    let counted = offered-right 64 r right in
+    let at : slotFor (r .slots) (keyOf p) ≡ i =
+    room-of-key 64 r (keyOf p) i right low (holds-key (keyOf p) q u h (slotAt (r .slots) i) gathers) in
+    let step : stepOf 64 r m p .receiver ≡ withDone (withState (withOffered r) i Free) =
+    ap (λ (l : Left). l .receiver) (start-done 64 r m p right sized starts (omega (arith, at, low)) ends)
+    ∙ ap (λ (j : ℕ). withDone (withState (withOffered r) j Free)) at in
+    let moves = tallies-move 64 (withOffered r) i Free (right-of 64 (withOffered r) counted)
+    (right-of 64 (withState (withOffered r) i Free) (free-right 64 (withOffered r) i low counted)) low in
     rw step (
       omega (arith, moves .0, ap oneGathering gathers),
       omega (arith, moves .1, ap bytesHeld gathers),

@@ -13,18 +13,23 @@ use Rattle.slots.specs.declared.state.SlotState.{SlotState}
 use Rattle.slots.specs.declared.state.SlotState.the-variants.{Gathering}
 use Rattle.slots.specs.declared.state.Receiver.{Receiver}
 use Rattle.slots.specs.State.{rightState}
-use Rattle.slots.specs.Tallies.{sumOf}
-use Rattle.slots.specs.Changes.{withState, freeRefusal, freedOf}
+use Rattle.slots.specs.Tallies.{sumOf, gatheringIn, heldIn, stopped}
+use Rattle.slots.specs.declared.state.Setup.{Setup}
+use Rattle.slots.specs.Changes.{withState, setUpOf, freeRefusal, freedOf}
 use Rattle.slots.proofs.Literal.{tallied}
 use Rattle.receiver.specs.Effects.{Unchanged}
 use Rattle.receiver.specs.Step.{refused, stepOf}
 use Rattle.messages.specs.Run.{Call, give, free, called, run}
-use Rattle.messages.specs.Tallies.{SlotsTold}
+use Rattle.messages.specs.Tallies.{isOffered, isDone, howMany, SlotsTold}
 use Rattle.rack.specs.Arrivals.{bySmbus}
 use Rattle.demands.specs.Presenting.{arrival}
 use Rattle.demands.proofs.Numbers.{card, empty, packetWith}
 use Rattle.demands.proofs.Steps.{gathering, steps}
 use Rattle.demands.proofs.Tallies as tallies
+
+-- the card at EID 9
+abbrev nine : Setup
+nine = record { own = record { 0 = 9 } }
 
 -- a start of one byte; document 01's frame
 pub true-after-every-call : SlotsTold (called 64 card empty (give (packetWith 0x80 1 7)) .receiver)
@@ -59,16 +64,16 @@ they-stay-where-they-stop =
     let stay = tallies.they-stay-where-they-stop full empty more in
     (stay .0 refl, stay .1 refl)
 
--- one slot told where none gathers, and one byte held
+-- one slot too many told, and no byte where one is held
 abbrev wrongSlots : Receiver
 wrongSlots = tallied 1 0 0 0 card
 
 abbrev wrongBytes : Receiver
-wrongBytes = tallied 0 1 0 0 card
+wrongBytes = tallied 1 0 1 0 gathering
 
 wrong : (SlotsTold wrongSlots → ⊥) × (SlotsTold wrongBytes → ⊥)
 unfolding sumOf
-wrong = ((λ e. let one : _≡_ {A = ℕ} 1 0 = e .0 in omega arith), (λ e. let one : _≡_ {A = ℕ} 1 0 = e .1 in omega arith))
+wrong = ((λ e. let one : _≡_ {A = ℕ} 1 0 = e .0 in omega arith), (λ e. let none : _≡_ {A = ℕ} 0 1 = e .1 in omega arith))
 
 abbrev Refused : Receiver → Type 0
 Refused r =
@@ -99,3 +104,26 @@ pub a-restart-moves-by-the-difference :
 a-restart-moves-by-the-difference =
     tallies.a-restart-moves-by-the-difference gathering empty (packetWith 0x80 2 7) 0 0 1 1 (steps .right-gathering)
     refl (steps .begun-again) refl (lit< tt) (steps .its-slot)
+
+-- and ended at once, with three bytes
+pub a-restart-that-ends :
+    let after = stepOf 64 gathering empty (packetWith 0xC0 3 7) .receiver in
+    (after .tallies .gathering + 1 ≡ 1) × (after .tallies .held + 1 ≡ 1) × (after .tallies .offered ≡ 2)
+    × (after .tallies .done ≡ 1)
+a-restart-that-ends =
+    tallies.a-restart-that-ends gathering empty (packetWith 0xC0 3 7) 0 0 1 1 (steps .right-gathering)
+    refl (steps .ended-at-once) refl (lit< tt) (steps .its-slot-then)
+
+-- what the panel shows, number by number: after a start, its restart that ends, and one packet that is refused
+abbrev few : List Call
+few = give (packetWith 0x80 1 7) ∷ give (packetWith 0xC0 3 7) ∷ give (packetWith 0x40 1 7) ∷ []
+
+pub the-panel-shows-all-four :
+    let after = run 64 (setUpOf nine) empty few in
+    ((after .receiver .tallies .gathering ≡ gatheringIn (after .receiver .slots))
+    × (after .receiver .tallies .held ≡ heldIn (after .receiver .slots)))
+    × (after .receiver .tallies .offered ≡ stopped (howMany isOffered (after .answers)))
+    × (after .receiver .tallies .done ≡ stopped (howMany isDone (after .answers)))
+the-panel-shows-all-four =
+    let shows = tallies.the-panel-shows-all-four nine empty few in
+    (shows .slots, shows .offered, shows .done)

@@ -1,4 +1,5 @@
--- Document 01's numbers about messages that aren't in the demands' list, by computation.
+-- Document 01's numbers about messages that aren't in the demands' list, and document 02's tallies (#102), by
+-- computation.
 -- Assumes nothing.
 use mathlib.Core.Path.{_≡_, refl, ap}
 use mathlib.Core.Bool.{true, false}
@@ -86,13 +87,21 @@ unfolding run stepOf decided ruled onStart onFollow
 fourth-slot = refl
 
 -- "packets offered": of the numbers that a refusal has, 3 and 15 to 22
-pub which-count : map (λ (n : ℕ). isOffered (refused n)) (1 ∷ 2 ∷ 3 ∷ 4 ∷ 14 ∷ 15 ∷ 17 ∷ 19 ∷ 20 ∷ 22 ∷ 23 ∷ [])
-    ≡ false ∷ false ∷ true ∷ false ∷ false ∷ true ∷ true ∷ true ∷ true ∷ true ∷ false ∷ []
+pub which-count : map (λ (n : ℕ). isOffered (refused n))
+    (1 ∷ 2 ∷ 3 ∷ 4 ∷ 5 ∷ 6 ∷ 7 ∷ 8 ∷ 9 ∷ 10 ∷ 11 ∷ 12 ∷ 13 ∷ 14 ∷ 15 ∷ 16 ∷ 17 ∷ 18 ∷ 19 ∷ 20 ∷ 21 ∷ 22 ∷ 23 ∷ [])
+    ≡ (false ∷ false ∷ true ∷ replicate 11 false) ++ (replicate 8 true ++ (false ∷ []))
 which-count = refl
+
+-- and what is held or done, again or not
+pub answers-count : (map isOffered (held 0 1 false ∷ held 3 1024 true ∷ done 0 1 false ∷ done 3 1024 true ∷ [])
+    ≡ replicate 4 true)
+    × (map isDone (refused 22 ∷ held 0 1 false ∷ held 3 1024 true ∷ done 0 1 false ∷ done 3 1024 true ∷ [])
+    ≡ false ∷ false ∷ false ∷ true ∷ true ∷ [])
+answers-count = (refl, refl)
 
 -- the panel after some calls: a start held, another of the same key, one of another key, a packet of no body (3), one
 -- of version 0 (15), one for another card (16), one of a reserved source (17), one without a start (19), one out of
--- sequence (20), which frees the first slot, a message of one packet done there, and two slots freed, of which one
+-- sequence (20), which frees the first slot, a message of one packet done there, the second slot freed, and one that
 -- isn't there
 abbrev calls : List Call
 calls =
@@ -106,7 +115,7 @@ calls =
     ∷ give (packet 0x52 1 7)
     ∷ give (packet 0x60 2 7)
     ∷ give (packet 0xC2 1 7)
-    ∷ free 0
+    ∷ free 1
     ∷ free 4
     ∷ []
 
@@ -119,7 +128,7 @@ pub panel-after : map (λ (n : ℕ). run 64 card empty (take n calls) .receiver 
     ∷ shown 2 5 8 0
     ∷ shown 1 3 9 0
     ∷ shown 1 3 10 1
-    ∷ shown 1 3 10 1
+    ∷ shown 0 0 10 1
     ∷ []
 unfolding run stepOf freeRefusal freedOf decided ruled onStart
     onFollow gathered after slotOf lowestFree firstOf headerOf keyOf sameKey rightState rightSlot rightNumbers multiple
@@ -158,3 +167,20 @@ pub uncounted : (stepOf 64 (tallied 1 0 3 2 card) empty (packet 0xC0 1 7)
     ≡ record { said = refused 2; receiver = tallied 0 0 3 2 card; memory = [] })
 unfolding stepOf decided rightState rightSlot clash sumOf
 uncounted = (refl, refl)
+
+-- a start that is the end too, and drops a half-message: one more of both, and no slot gathers
+pub done-again : runPackets 64 card empty (packet 0x80 1 7 ∷ packet 0xC0 3 7 ∷ []) .receiver .tallies ≡ shown 0 0 2 1
+unfolding run stepOf decided ruled onStart onFollow
+    gathered after slotOf lowestFree firstOf headerOf keyOf sameKey rightState rightSlot rightNumbers multiple clash
+    laid sumOf
+done-again = refl
+
+-- a fifth key (18), and a middle of another size (21), which frees its slot
+pub full-and-size : map
+    (λ (p : List ℕ). stepOf 64 (with-slots (gathering 4 64) (gathering 5 64) (gathering 6 64) (gathering 7 64)) empty p
+    .receiver .tallies)
+    (packet 0x88 1 7 ∷ packet 0x1D 63 7 ∷ [])
+    ≡ shown 4 256 1 0 ∷ shown 3 192 1 0 ∷ []
+unfolding stepOf decided ruled onStart onFollow gathered
+    after slotOf lowestFree firstOf headerOf keyOf sameKey rightState rightSlot rightNumbers multiple clash laid sumOf
+full-and-size = refl

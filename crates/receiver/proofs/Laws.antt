@@ -87,10 +87,10 @@ put-answers (Gathering k q u h) i b again n s =
 
 module _ (most : ℕ) (r : Receiver) (m p : List ℕ) (n : ℕ) (e : stepOf most r m p .said ≡ refused n) where
   -- refused with anything but 20, 21, 22: the memory is unchanged, and so is the receiver, once it has counted
-  refused-leaves : n ≤ 19
+  refused-leaves : (20 ≤ n → n ≤ 22 → ⊥)
       → Unchanged (pick (ltb 2 n) (withOffered r) r) m (stepOf most r m p .receiver) (stepOf most r m p .memory)
   unfolding stepOf
-  refused-leaves high =
+  refused-leaves frees-none =
       every-decision most r (length m) p
       (λ d. carriedOut (afterOffer r d) m p d .said ≡ refused n
       → Unchanged (pick (ltb 2 n) (withOffered r) r) m (carriedOut (afterOffer r d) m p d .receiver)
@@ -101,29 +101,29 @@ module _ (most : ℕ) (r : Receiver) (m p : List ℕ) (n : ℕ) (e : stepOf most
             record { receiver = ap (λ (j : ℕ). pick (ltb 2 j) (withOffered r) r) same; memory = refl };
         releases = λ x i k h b c s.
             let same : k ≡ n = cc in
-            absurd (none k same (within-bounds 20 22 k b .0));
+            absurd (none k same (within-bounds 20 22 k b));
         puts = λ x y i at again then f s. absurd (put-answers then i (at + length (bodyOf p)) again n s);
       })
       e
     where
-      none : (k : ℕ) → k ≡ n → 20 ≤ k → ⊥
-      none k same b = omega arith
+      none : (k : ℕ) → k ≡ n → (20 ≤ k) × (k ≤ 22) → ⊥
+      none k same b = frees-none (omega (arith, b .0)) (omega (arith, b .1))
 
   -- slots and memory stay
   pub refused-keeps : n ≤ 19 → (stepOf most r m p .receiver .slots ≡ r .slots) × (stepOf most r m p .memory ≡ m)
   refused-keeps high =
-      let same = refused-leaves high in
+      let same = refused-leaves (λ low up. omega arith) in
       (ap (λ (q : Receiver). q .slots) (same .receiver) ∙ offer-slots r (refuse n), same .memory)
 
   -- "1 and 2 count nothing": all unchanged
   pub refused-uncounted : n ≤ 2 → Unchanged r m (stepOf most r m p .receiver) (stepOf most r m p .memory)
-  refused-uncounted low = rw (le-ltb 2 n low) at (refused-leaves (omega arith))
+  refused-uncounted low = rw (le-ltb 2 n low) at (refused-leaves (λ twenty up. omega arith))
 
   -- "A packet refused with 3 or 15 to 22 counts as offered, and that tally is then the one further change to the
   -- receiver": with 3 and 15 to 19, the one change
-  pub refused-counted : 3 ≤ n → n ≤ 19
+  pub refused-counted : 3 ≤ n → (n ≡ 20 → ⊥) → (n ≡ 21 → ⊥) → (n ≡ 22 → ⊥)
       → Unchanged (withOffered r) m (stepOf most r m p .receiver) (stepOf most r m p .memory)
-  refused-counted low high = rw (lt-ltb 2 n low) at (refused-leaves high)
+  refused-counted low n20 n21 n22 = rw (lt-ltb 2 n low) at (refused-leaves (λ twenty up. omega arith))
 
   -- refused with 20, 21, 22: the slot that has the packet's key becomes free too, memory unchanged
   pub refused-freed : 20 ≤ n

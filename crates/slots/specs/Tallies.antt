@@ -46,7 +46,8 @@ stopped n = min n 4294967295
 abbrev pub nextTally : ℕ → ℕ
 nextTally n = stopped (n + 1)
 
--- "Store both and keep them true through every call.": less what a slot added before, and more what it adds now
+-- "Store both and keep them true through every call.": less what a slot added before, and more what it adds now. (In a
+-- right state neither end of a tally's range is met; a wrong one is refused with 1.)
 abbrev pub moved : (tally before now : ℕ) → ℕ
 moved tally before now = stopped (tally - before + now)
 
