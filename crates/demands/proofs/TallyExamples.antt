@@ -73,7 +73,10 @@ wrongBytes = tallied 1 0 1 0 gathering
 
 wrong : (SlotsTold wrongSlots → ⊥) × (SlotsTold wrongBytes → ⊥)
 unfolding sumOf
-wrong = ((λ e. let one : _≡_ {A = ℕ} 1 0 = e .0 in omega arith), (λ e. let none : _≡_ {A = ℕ} 0 1 = e .1 in omega arith))
+wrong = (
+  (λ e. let one : _≡_ {A = ℕ} 1 0 = e .0 in omega arith),
+  (λ e. let none : _≡_ {A = ℕ} 0 1 = e .1 in omega arith),
+)
 
 abbrev Refused : Receiver → Type 0
 Refused r =

@@ -186,7 +186,7 @@ tallies-move most r i s before after h =
       ),
     )
 
--- a slot of a right state set to anything that a slot can store, or one that isn't there: what the slots tell stays true
+-- a slot of a right state set to anything that a slot can store, or one that isn't there: the tallies stay true
 pub told-stays : (most : ℕ) (r : Receiver) (i : ℕ) (s : SlotState) → Right most r → bytesHeld s ≤ 65535
     → (withState r i s .tallies .gathering ≡ gatheringIn (withState r i s .slots))
     × (withState r i s .tallies .held ≡ heldIn (withState r i s .slots))
