@@ -9,12 +9,12 @@ use Rattle.octets.specs.Choice.{pick}
 use Rattle.octets.proofs.Choice.{pick-elim, both}
 use Rattle.mctp.specs.Packet.{bodyRight}
 use Rattle.slots.specs.declared.state.Setup.{Setup}
-use Rattle.slots.specs.declared.state.SlotState.the-variants.{Free}
 use Rattle.slots.specs.declared.state.Receiver.{Receiver}
 use Rattle.slots.specs.Setup.{rightSetup}
+use Rattle.slots.specs.Slots.{freeSlot}
 use Rattle.slots.specs.Tallies.{sumOf}
 use Rattle.slots.specs.State.{rightSlot, clash, rightState}
-use Rattle.slots.specs.Changes.{fresh, withState, withOffered, withDone, setUpOf, freeRefusal, freedOf}
+use Rattle.slots.specs.Changes.{fresh, withSlot, withOffered, withDone, setUpOf, freeRefusal, freedOf}
 use Rattle.slots.proofs.States.{right-of, right-holds, with-right}
 
 -- a fresh receiver's state is right
@@ -27,9 +27,10 @@ fresh-right most s m e = rw (m, e)
 pub set-up-right : (most : ℕ) (s : Setup) → bodyRight most ≡ true → rightState most (setUpOf s) ≡ true
 unfolding setUpOf
 set-up-right most s m =
-    pick-elim (λ t. rightState most (fresh t) ≡ true) (rightSetup s) s (record { own = record { 0 = 0 } })
+    pick-elim (λ t. rightState most (fresh t) ≡ true) (rightSetup s) s
+    (record { own = record { 0 = 0 }; limit = 60000 })
     (fresh-right most s m)
-    (λ e. fresh-right most (record { own = record { 0 = 0 } }) m refl)
+    (λ e. fresh-right most (record { own = record { 0 = 0 }; limit = 60000 }) m refl)
 
 -- a packet or a message counted leaves a right state right: any value of the last two tallies is
 pub offered-right : (most : ℕ) (r : Receiver) → rightState most r ≡ true → rightState most (withOffered r) ≡ true
@@ -42,22 +43,22 @@ done-right most r e = e
 
 -- a slot freed leaves a right state right
 pub free-right : (most : ℕ) (r : Receiver) (i : ℕ) → i < 4 → rightState most r ≡ true
-    → rightState most (withState r i Free) ≡ true
+    → rightState most (withSlot r i freeSlot) ≡ true
 unfolding rightSlot clash
 free-right most r i h e =
-    right-holds most (withState r i Free) (with-right most r (right-of most r e) i Free h refl (λ j hj n. refl))
+    right-holds most (withSlot r i freeSlot) (with-right most r (right-of most r e) i freeSlot h refl (λ j hj n. refl))
 
 pub freed-right : (most : ℕ) (r : Receiver) (i : ℕ) → rightState most r ≡ true
     → rightState most (freedOf most r i) ≡ true
 unfolding freedOf
 freed-right most r i e =
-    pick-elim (λ t. rightState most t ≡ true) (rightState most r && ltb i 4) (withState r i Free) r
+    pick-elim (λ t. rightState most t ≡ true) (rightState most r && ltb i 4) (withSlot r i freeSlot) r
     (λ t. free-right most r i (ltb-true i 4 (both (rightState most r) (ltb i 4) t .1)) e)
     (λ t. e)
 
 -- a slot of a right state freed: 0, and that slot alone becomes free
 pub freed-good : (most : ℕ) (r : Receiver) (i : ℕ) → rightState most r ≡ true → i < 4
-    → (freeRefusal most r i ≡ 0) × (freedOf most r i ≡ withState r i Free)
+    → (freeRefusal most r i ≡ 0) × (freedOf most r i ≡ withSlot r i freeSlot)
 unfolding freeRefusal freedOf
 freed-good most r i e h = (rw (e, lt-ltb i 4 h), rw (e, lt-ltb i 4 h))
 
@@ -73,7 +74,7 @@ pub freed-refused : (most : ℕ) (r : Receiver) (i : ℕ) → (freeRefusal most 
 unfolding freeRefusal freedOf
 freed-refused most r i = by-test (rightState most r && ltb i 4)
   where
-    by-test : (b : Bool) → (_≡_ {A = ℕ} (pick b 0 1) 0 → ⊥) → pick b (withState r i Free) r ≡ r
+    by-test : (b : Bool) → (_≡_ {A = ℕ} (pick b 0 1) 0 → ⊥) → pick b (withSlot r i freeSlot) r ≡ r
     by-test true never = absurd (never refl)
     by-test false never = refl
 

@@ -7,16 +7,17 @@ use native.Mathlib.Omega.{arith}
 use contract.Lifetimes.{Lfts}
 use Rattle.octets.proofs.Choice.{determined}
 use Rattle.mctp.proofs.Refusals.{number-injective, number-positive}
-use Rattle.slots.specs.declared.state.SlotState.the-variants.{Free}
 use Rattle.mctp.specs.declared.refusal.Outcome.{Outcome}
 use Rattle.mctp.specs.declared.refusal.Outcome.the-variants.{Good, Refused}
 use Rattle.slots.specs.declared.change.Changed.{Changed}
 use Rattle.mctp.specs.Refusals.{outcomeNumber}
-use Rattle.slots.specs.Changes.{withState}
+use Rattle.slots.specs.Slots.{freeSlot}
+use Rattle.slots.specs.Changes.{withSlot}
 use Rattle.slots.proofs.Changes.{freed-good, freed-wrong}
+use Rattle.slots.proofs.age.expired.Reads as expired
 use Rattle.slots.proofs.change.set_up.Reads as set-up
 use Rattle.slots.proofs.change.free.Reads as free
-use Rattle.slots.proofs.change.with_state.Reads as with-state
+use Rattle.slots.proofs.change.with_slot.Reads as with-slot
 use Rattle.slots.proofs.check.ours.Reads as ours
 use Rattle.slots.proofs.check.right.Reads as right
 use Rattle.slots.proofs.check.right_within.Reads as within
@@ -48,8 +49,8 @@ pub free-determined : (κs : Lfts 0) (a r q e f : _) → free.Post κs a r e →
 free-determined κs a r q e f p o =
     changed-same r q (determined (p .0) (o .0)) (determined (p .1) (o .1))
 
-pub with-state-determined : (κs : Lfts 0) (a r q e f : _) → with-state.Post κs a r e → with-state.Post κs a q f → r ≡ q
-with-state-determined κs a r q e f p o = determined p o
+pub with-slot-determined : (κs : Lfts 0) (a r q e f : _) → with-slot.Post κs a r e → with-slot.Post κs a q f → r ≡ q
+with-slot-determined κs a r q e f p o = determined p o
 
 pub ours-determined : (κs : Lfts 0) (a r q e f : _) → ours.Post κs a r e → ours.Post κs a q f → r ≡ q
 ours-determined κs a r q e f p o = determined p o
@@ -69,6 +70,9 @@ lowest-free-determined κs a r q e f p o = determined p o
 pub state-at-determined : (κs : Lfts 0) (a r q e f : _) → state-at.Post κs a r e → state-at.Post κs a q f → r ≡ q
 state-at-determined κs a r q e f p o = determined p o
 
+pub expired-determined : (κs : Lfts 0) (a r q e f : _) → expired.Post κs a r e → expired.Post κs a q f → r ≡ q
+expired-determined κs a r q e f p o = determined p o
+
 pub tallies-of-determined : (κs : Lfts 0) (a r q e f : _) → tallies-of.Post κs a r e → tallies-of.Post κs a q f → r ≡ q
 tallies-of-determined κs a r q e f p o = determined p o
 
@@ -82,7 +86,7 @@ with-done-determined κs a r q e f p o = determined p o
 -- What `right` says is what `free` goes by.
 pub right-is-freed : (κs : Lfts 0) (a e : _) → right.Post κs a true e → (i : ℕ) (r f : _) → i < 4
     → free.Post κs (a .0, (i, tt)) r f
-    → (outcomeNumber (r .outcome) ≡ 0) × (r .receiver ≡ withState (a .0) i Free)
+    → (outcomeNumber (r .outcome) ≡ 0) × (r .receiver ≡ withSlot (a .0) i freeSlot)
 right-is-freed κs a e p i r f h o =
     let good = freed-good 64 (a .0) i (sym p) h in
     (o .0 ∙ good .0, o .1 ∙ good .1)
@@ -97,17 +101,19 @@ wrong-is-kept κs a e p i r f o =
 -- No call asks anything of its arguments first.
 pub no-requires : ((κs : Lfts 0) (a : _) → set-up.Pre κs a)
     × ((κs : Lfts 0) (a : _) → free.Pre κs a)
-    × ((κs : Lfts 0) (a : _) → with-state.Pre κs a)
+    × ((κs : Lfts 0) (a : _) → with-slot.Pre κs a)
     × ((κs : Lfts 0) (a : _) → ours.Pre κs a)
     × ((κs : Lfts 0) (a : _) → right.Pre κs a)
     × ((κs : Lfts 0) (a : _) → within.Pre κs a)
     × ((κs : Lfts 0) (a : _) → slot-of.Pre κs a)
     × ((κs : Lfts 0) (a : _) → lowest.Pre κs a)
     × ((κs : Lfts 0) (a : _) → state-at.Pre κs a)
+    × ((κs : Lfts 0) (a : _) → expired.Pre κs a)
     × ((κs : Lfts 0) (a : _) → tallies-of.Pre κs a)
     × ((κs : Lfts 0) (a : _) → with-offered.Pre κs a)
     × ((κs : Lfts 0) (a : _) → with-done.Pre κs a)
 no-requires = (
+  (λ κs a. tt),
   (λ κs a. tt),
   (λ κs a. tt),
   (λ κs a. tt),

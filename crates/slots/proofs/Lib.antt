@@ -4,5 +4,6 @@ pub mod Tallies
 pub mod States
 pub mod Found
 pub mod Changes
+pub mod Ages
 pub mod Determined
 pub mod Literal

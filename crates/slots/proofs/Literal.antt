@@ -1,4 +1,5 @@
--- The state check, set-up, a slot freed and the tallies, on literal states at the limits that the documents name.
+-- The state check, set-up, slots freed by a call and by age, and the tallies, on literal states at the limits that the
+-- documents name.
 -- Assumes nothing.
 use mathlib.Core.Path.{_≡_, refl}
 use mathlib.Core.Bool.{Bool, true, false}
@@ -6,18 +7,24 @@ use mathlib.Core.List.{List, [], _∷_, _++_, map}
 use Prim.Native.Nat.{ℕ}
 use Rattle.mctp.specs.declared.packet.Key.{Key}
 use Rattle.mctp.specs.Key.{sameKey}
+use Rattle.slots.specs.declared.state.Setup.{Setup}
 use Rattle.slots.specs.declared.state.Slot.{Slot}
 use Rattle.slots.specs.declared.state.SlotState.the-variants.{Gathering}
 use Rattle.slots.specs.declared.state.Receiver.{Receiver}
-use Rattle.slots.specs.Slots.{firstOf, slotOf, lowestFree}
+use Rattle.slots.specs.Slots.{freeSlot, firstOf, slotOf, lowestFree}
 use Rattle.slots.specs.State.{multiple, rightNumbers, rightSlot, clash, rightState}
 use Rattle.slots.specs.Tallies.{sumOf, gatheringIn, heldIn, nextTally}
-use Rattle.slots.specs.Changes.{freeSlot, fresh, withState, withTallies, withOffered, withDone}
+use Rattle.slots.specs.Changes.{fresh, withSlot, withTallies, withOffered, withDone}
 use Rattle.slots.specs.Changes.{setUpRefusal, setUpOf, freeRefusal, freedOf}
+use Rattle.slots.specs.Ages.{age, tooOld, expiredTo, expired}
 
--- the receiver of EID 9, and it with these slots and the tallies that they tell
+-- what to set up with: this own EID, and a limit in milliseconds
+abbrev pub setup : ℕ → ℕ → Setup
+setup own limit = record { own = record { 0 = own }; limit = limit }
+
+-- the receiver of EID 9 with a limit of a second, and it with these slots and the tallies that they tell
 abbrev pub card : Receiver
-card = fresh (record { own = record { 0 = 9 } })
+card = fresh (setup 9 1000)
 
 abbrev with-all : List Slot → Receiver
 with-all slots =
@@ -39,7 +46,11 @@ abbrev pub key : ℕ → ℕ → Bool → ℕ → Key
 key d s o t = record { destination = record { 0 = d }; source = record { 0 = s }; owner = o; tag = t }
 
 abbrev pub slot : Key → ℕ → ℕ → ℕ → Slot
-slot k sequence unit held = record { state = Gathering k sequence unit held }
+slot k sequence unit held = record { state = Gathering k sequence unit held; since = 0 }
+
+-- a slot whose last packet came at this count
+abbrev pub since : ℕ → Slot → Slot
+since count x = record { state = x .state; since = count }
 
 -- a slot that gathers for tag t from EID 10, with n bytes in units of 64
 abbrev pub gathering : ℕ → ℕ → Slot
@@ -79,12 +90,18 @@ near = map (λ (k : Key). slot k 0 64 64) keys
 
 pub record Literals : Type 0 where
   -- "The receiver has an own EID (0 or 8 to 254)"
-  pub own-eids : map (λ (e : ℕ). setUpRefusal (record { own = record { 0 = e } })) (0 ∷ 8 ∷ 254 ∷ 1 ∷ 7 ∷ 255 ∷ [])
+  pub own-eids : map (λ (e : ℕ). setUpRefusal (setup e 1000)) (0 ∷ 8 ∷ 254 ∷ 1 ∷ 7 ∷ 255 ∷ [])
       ≡ 0 ∷ 0 ∷ 0 ∷ 1 ∷ 1 ∷ 1 ∷ []
-  -- and the receiver is set up with it; refused, with the null EID
-  pub own-kept : map (λ (e : ℕ). setUpOf (record { own = record { 0 = e } }) .setup .own .0)
-      (0 ∷ 8 ∷ 254 ∷ 7 ∷ [])
-      ≡ 0 ∷ 8 ∷ 254 ∷ 0 ∷ []
+  -- "a set limit of 1 to 60,000"
+  pub limits : map (λ (l : ℕ). setUpRefusal (setup 9 l)) (1 ∷ 60000 ∷ 0 ∷ 60001 ∷ []) ≡ 0 ∷ 0 ∷ 1 ∷ 1 ∷ []
+  -- and the receiver is set up with both; refused, with the null EID and the longest limit
+  pub setup-kept : setUpOf (setup 254 1) .setup ∷ setUpOf (setup 7 1) .setup ∷ setUpOf (setup 9 0) .setup ∷ []
+      ≡ setup 254 1 ∷ setup 0 60000 ∷ setup 0 60000 ∷ []
+  -- "1 for a limit out of range", in a stored state too
+  pub stored-limits : map (λ (l : ℕ). rightState 64 (fresh (setup 9 l))) (1 ∷ 60000 ∷ 0 ∷ 60001 ∷ [])
+      ≡ true ∷ true ∷ false ∷ false ∷ []
+  -- a slot may have any count, gathering or free
+  pub counts : may-have (since 4294967295 a ∷ since 0 b ∷ since 4294967295 freeSlot ∷ freeSlot ∷ []) ≡ true
   -- "unit is 1 to 64"
   pub units : map (λ (u : ℕ). may-hold (slot (key 9 10 true 0) 0 u u)) (1 ∷ 64 ∷ 0 ∷ 65 ∷ [])
       ≡ true ∷ true ∷ false ∷ false ∷ []
@@ -127,9 +144,9 @@ pub record Literals : Type 0 where
   -- begun with 2 bytes; and slot 4, which isn't there
   pub moves : freedOf 64 three 3
       ∷ freedOf 64 three 2
-      ∷ withState three 1 (Gathering (key 9 10 true 2) 3 2 2)
-      ∷ withState three 2 (Gathering (key 9 10 true 5) 3 2 2)
-      ∷ withState three 4 (Gathering (key 9 10 true 5) 3 2 2)
+      ∷ withSlot three 1 (slot (key 9 10 true 2) 3 2 2)
+      ∷ withSlot three 2 (slot (key 9 10 true 5) 3 2 2)
+      ∷ withSlot three 4 (slot (key 9 10 true 5) 3 2 2)
       ∷ []
       ≡ tallied 2 192 7 5 (with-slots a (gathering 2 128) freeSlot freeSlot)
       ∷ three
@@ -141,18 +158,33 @@ pub record Literals : Type 0 where
   pub counted : withOffered three ∷ withDone three ∷ [] ≡ tallied 3 1216 8 5 three ∷ tallied 3 1216 7 6 three ∷ []
   pub stops : map nextTally (0 ∷ 4294967294 ∷ 4294967295 ∷ []) ≡ 1 ∷ 4294967295 ∷ 4294967295 ∷ []
   -- nothing is tallied at set-up, refused or not
-  pub none-tallied : map (λ (e : ℕ). setUpOf (record { own = record { 0 = e } }) .tallies) (8 ∷ 7 ∷ [])
+  pub none-tallied : map (λ (e : ℕ). setUpOf (setup e 1000) .tallies) (8 ∷ 7 ∷ [])
       ≡ record { gathering = 0; held = 0; offered = 0; done = 0 }
       ∷ record { gathering = 0; held = 0; offered = 0; done = 0 }
       ∷ []
+  -- "Age is now minus then, modulo 2^32.": at once, later, where the count has wrapped, and where it was stepped back
+  pub ages : age 7 7 ∷ age 1007 7 ∷ age 5 4294967290 ∷ age 0 4294967295 ∷ age 6 7 ∷ age 4294967295 0 ∷ []
+      ≡ 0 ∷ 1000 ∷ 11 ∷ 1 ∷ 4294967295 ∷ 4294967295 ∷ []
+  -- "exceeds": an age equal to the limit stays; and a free slot has no age
+  pub too-old : map (λ (time : ℕ). tooOld 1000 time (a .state) 7) (1006 ∷ 1007 ∷ 1008 ∷ 6 ∷ [])
+      ∷ map (λ (time : ℕ). tooOld 1000 time (freeSlot .state) 7) (1006 ∷ 1007 ∷ 1008 ∷ 6 ∷ [])
+      ∷ []
+      ≡ (false ∷ false ∷ true ∷ true ∷ []) ∷ (false ∷ false ∷ false ∷ false ∷ []) ∷ []
+  -- at 1,000 the slots of counts 4,294,967,295 and 4,294,967,290 are freed, and leave the tallies; of 0 and 1,000 stay
+  pub expiry : expired 1000 (tallied 4 1216 7 5
+      (with-slots (since 4294967295 a) b (since 1000 c) (since 4294967290 (gathering 4 1024))))
+      ≡ tallied 2 128 7 5 (with-slots freeSlot b (since 1000 c) freeSlot)
 
 pub literals : Literals
 unfolding setUpRefusal setUpOf freeRefusal freedOf slotOf lowestFree firstOf sameKey rightState rightSlot rightNumbers
-    multiple clash sumOf
+    multiple clash sumOf expiredTo
 literals =
     record {
       own-eids = refl;
-      own-kept = refl;
+      limits = refl;
+      setup-kept = refl;
+      stored-limits = refl;
+      counts = refl;
       units = refl;
       helds = refl;
       helds-by-one = refl;
@@ -170,4 +202,7 @@ literals =
       counted = refl;
       stops = refl;
       none-tallied = refl;
+      ages = refl;
+      too-old = refl;
+      expiry = refl;
     }

@@ -7,9 +7,8 @@ use native.Mathlib.Omega.{arith}
 use lib.ListN.{length, set, List·getD-eq-default}
 use lib.Seq.{getD-set-same, getD-set-other}
 use Rattle.slots.specs.declared.state.Slot.{Slot}
-use Rattle.slots.specs.declared.state.SlotState.{SlotState}
 use Rattle.slots.specs.declared.state.SlotState.the-variants.{Free}
-use Rattle.slots.specs.Slots.{slotAt}
+use Rattle.slots.specs.Slots.{freeSlot, slotAt, sinceAt}
 
 -- what holds of the four slots holds of each
 pub four-cases : (P : ℕ → Type 0) → P 0 → P 1 → P 2 → P 3 → (i : ℕ) → i < 4 → P i
@@ -22,14 +21,19 @@ four-cases P a b c d (suc (suc (suc (suc i)))) h =
     absurd none
 
 -- the slot that is set, and any other
-pub slot-same : (l : List Slot) (i : ℕ) (s : SlotState) → i < length l → slotAt (set l i (record { state = s })) i ≡ s
-slot-same l i s h = ap (λ (x : Slot). x .state) (getD-set-same l i (record { state = s }) (record { state = Free }) h)
+pub slot-same : (l : List Slot) (i : ℕ) (x : Slot) → i < length l → slotAt (set l i x) i ≡ x .state
+slot-same l i x h = ap (λ (y : Slot). y .state) (getD-set-same l i x freeSlot h)
 
-pub slot-other : (l : List Slot) (i j : ℕ) (s : SlotState) → (j ≡ i → ⊥)
-    → slotAt (set l i (record { state = s })) j ≡ slotAt l j
-slot-other l i j s n =
-    ap (λ (x : Slot). x .state) (getD-set-other l i j (record { state = s }) (record { state = Free }) n)
+pub slot-other : (l : List Slot) (i j : ℕ) (x : Slot) → (j ≡ i → ⊥) → slotAt (set l i x) j ≡ slotAt l j
+slot-other l i j x n = ap (λ (y : Slot). y .state) (getD-set-other l i j x freeSlot n)
+
+-- and their counts
+pub since-same : (l : List Slot) (i : ℕ) (x : Slot) → i < length l → sinceAt (set l i x) i ≡ x .since
+since-same l i x h = ap (λ (y : Slot). y .since) (getD-set-same l i x freeSlot h)
+
+pub since-other : (l : List Slot) (i j : ℕ) (x : Slot) → (j ≡ i → ⊥) → sinceAt (set l i x) j ≡ sinceAt l j
+since-other l i j x n = ap (λ (y : Slot). y .since) (getD-set-other l i j x freeSlot n)
 
 -- past the last slot there is none
 pub slot-past : (l : List Slot) (i : ℕ) → length l ≤ i → slotAt l i ≡ Free
-slot-past l i h = ap (λ (x : Slot). x .state) (List·getD-eq-default l (record { state = Free }) h)
+slot-past l i h = ap (λ (y : Slot). y .state) (List·getD-eq-default l freeSlot h)

@@ -14,6 +14,7 @@ use Rattle.mctp.specs.declared.packet.Key.{Key}
 use Rattle.mctp.specs.Key.{sameKey}
 use Rattle.mctp.specs.Packet.{bodyRight}
 use Rattle.mctp.proofs.Keys.{same-key-refl, same-key-true}
+use Rattle.slots.specs.declared.state.Slot.{Slot}
 use Rattle.slots.specs.declared.state.SlotState.{SlotState}
 use Rattle.slots.specs.declared.state.SlotState.the-variants.{Free, Gathering}
 use Rattle.slots.specs.declared.state.Receiver.{Receiver}
@@ -21,7 +22,7 @@ use Rattle.slots.specs.Setup.{rightSetup}
 use Rattle.slots.specs.Slots.{slotAt, hasKey}
 use Rattle.slots.specs.Tallies.{oneGathering, bytesHeld, gatheringIn, heldIn}
 use Rattle.slots.specs.State.{rightSlot, clash, rightState}
-use Rattle.slots.specs.Changes.{withState}
+use Rattle.slots.specs.Changes.{withSlot}
 use Rattle.slots.proofs.Slots.{four-cases, slot-same, slot-other}
 use Rattle.slots.proofs.Numbers.{slot-holds}
 use Rattle.slots.proofs.Tallies.{one-at-most, sum-at-most, sum-moves, moved-true, past-last}
@@ -129,90 +130,90 @@ pub most-bounds : (most : ℕ) (r : Receiver) → rightState most r ≡ true →
 most-bounds most r e = within-bounds 64 246 most (right-of most r e .most-right)
 
 -- a right state stays right where one slot gets a right state whose key no other slot has
-module _ (most : ℕ) (r : Receiver) (R : Right most r) (i : ℕ) (s : SlotState) (h : i < 4)
-    (right : rightSlot most (r .setup) s ≡ true)
-    (alone : (j : ℕ) → j < 4 → (i ≡ j → ⊥) → clash s (slotAt (r .slots) j) ≡ false) where
+module _ (most : ℕ) (r : Receiver) (R : Right most r) (i : ℕ) (x : Slot) (h : i < 4)
+    (right : rightSlot most (r .setup) (x .state) ≡ true)
+    (alone : (j : ℕ) → j < 4 → (i ≡ j → ⊥) → clash (x .state) (slotAt (r .slots) j) ≡ false) where
   in-range : i < length (r .slots)
   in-range = omega (arith, R .four)
 
-  at-same : (j : ℕ) → i ≡ j → slotAt (withState r i s .slots) j ≡ s
-  at-same j e = ap (λ (k : ℕ). slotAt (withState r i s .slots) k) (sym e) ∙ slot-same (r .slots) i s in-range
+  at-same : (j : ℕ) → i ≡ j → slotAt (withSlot r i x .slots) j ≡ x .state
+  at-same j e = ap (λ (k : ℕ). slotAt (withSlot r i x .slots) k) (sym e) ∙ slot-same (r .slots) i x in-range
 
-  at-other : (j : ℕ) → (i ≡ j → ⊥) → slotAt (withState r i s .slots) j ≡ slotAt (r .slots) j
-  at-other j n = slot-other (r .slots) i j s (λ e. n (sym e))
+  at-other : (j : ℕ) → (i ≡ j → ⊥) → slotAt (withSlot r i x .slots) j ≡ slotAt (r .slots) j
+  at-other j n = slot-other (r .slots) i j x (λ e. n (sym e))
 
-  each : (j : ℕ) → j < 4 → rightSlot most (r .setup) (slotAt (withState r i s .slots) j) ≡ true
+  each : (j : ℕ) → j < 4 → rightSlot most (r .setup) (slotAt (withSlot r i x .slots) j) ≡ true
   each j hj = dite (ℕ-discrete i j) (λ e. rw (at-same j e) right) (λ n. rw (at-other j n) (R .each j hj))
 
-  pub with-right : Right most (withState r i s)
+  pub with-right : Right most (withSlot r i x)
   with-right =
       record {
         most-right = R .most-right;
         setup = R .setup;
-        four = length-set (r .slots) i (record { state = s }) ∙ R .four;
+        four = length-set (r .slots) i x ∙ R .four;
         each = each;
         apart = λ j k hj hk n.
             dite (ℕ-discrete i j)
             (λ ej. rw (at-same j ej, at-other k (λ ek. n (sym ej ∙ ek))) (alone k hk (λ ek. n (sym ej ∙ ek))))
             (λ nj.
             dite (ℕ-discrete i k)
-            (λ ek. rw (at-other j nj, at-same k ek) (clash-sym (slotAt (r .slots) j) s ∙ alone j hj nj))
+            (λ ek. rw (at-other j nj, at-same k ek) (clash-sym (slotAt (r .slots) j) (x .state) ∙ alone j hj nj))
             (λ nk. rw (at-other j nj, at-other k nk) (R .apart j k hj hk n)));
-        gathering = moved-true oneGathering refl 1 (lit≤ tt) (r .slots) i s (R .four) h (r .tallies .gathering)
-            (R .gathering) (λ j hj. one-at-most (slotAt (withState r i s .slots) j));
-        held = moved-true bytesHeld refl 1024 (lit≤ tt) (r .slots) i s (R .four) h (r .tallies .held) (R .held)
-            (λ j hj. slot-holds most (r .setup) (slotAt (withState r i s .slots) j) (each j hj));
+        gathering = moved-true oneGathering refl 1 (lit≤ tt) (r .slots) i x (R .four) h (r .tallies .gathering)
+            (R .gathering) (λ j hj. one-at-most (slotAt (withSlot r i x .slots) j));
+        held = moved-true bytesHeld refl 1024 (lit≤ tt) (r .slots) i x (R .four) h (r .tallies .held) (R .held)
+            (λ j hj. slot-holds most (r .setup) (slotAt (withSlot r i x .slots) j) (each j hj));
       }
 
 -- from one right state to another in which one slot differs, each tally that the slots tell moves by the difference
-pub tallies-move : (most : ℕ) (r : Receiver) (i : ℕ) (s : SlotState) → Right most r → Right most (withState r i s)
+pub tallies-move : (most : ℕ) (r : Receiver) (i : ℕ) (x : Slot) → Right most r → Right most (withSlot r i x)
     → i < 4
-    → (withState r i s .tallies .gathering + oneGathering (slotAt (r .slots) i)
-    ≡ r .tallies .gathering + oneGathering s)
-    × (withState r i s .tallies .held + bytesHeld (slotAt (r .slots) i) ≡ r .tallies .held + bytesHeld s)
-tallies-move most r i s before after h =
+    → (withSlot r i x .tallies .gathering + oneGathering (slotAt (r .slots) i)
+    ≡ r .tallies .gathering + oneGathering (x .state))
+    × (withSlot r i x .tallies .held + bytesHeld (slotAt (r .slots) i) ≡ r .tallies .held + bytesHeld (x .state))
+tallies-move most r i x before after h =
     let there : i < length (r .slots) = omega (arith, before .four) in (
       omega (
         arith,
         before .gathering,
         after .gathering,
-        sum-moves oneGathering (r .slots) s i there h,
+        sum-moves oneGathering (r .slots) x i there h,
       ),
       omega (
         arith,
         before .held,
         after .held,
-        sum-moves bytesHeld (r .slots) s i there h,
+        sum-moves bytesHeld (r .slots) x i there h,
       ),
     )
 
 -- a slot of a right state set to anything that a slot can store, or one that isn't there: the tallies stay true
-pub told-stays : (most : ℕ) (r : Receiver) (i : ℕ) (s : SlotState) → Right most r → bytesHeld s ≤ 65535
-    → (withState r i s .tallies .gathering ≡ gatheringIn (withState r i s .slots))
-    × (withState r i s .tallies .held ≡ heldIn (withState r i s .slots))
-told-stays most r i s R fits =
+pub told-stays : (most : ℕ) (r : Receiver) (i : ℕ) (x : Slot) → Right most r → bytesHeld (x .state) ≤ 65535
+    → (withSlot r i x .tallies .gathering ≡ gatheringIn (withSlot r i x .slots))
+    × (withSlot r i x .tallies .held ≡ heldIn (withSlot r i x .slots))
+told-stays most r i x R fits =
     by-cases (decLt i 4)
     (λ (h : i < 4). (
-      moved-true oneGathering refl 1 (lit≤ tt) (r .slots) i s (R .four) h (r .tallies .gathering) (R .gathering)
-          (λ j hj. one-at-most (slotAt (withState r i s .slots) j)),
-      moved-true bytesHeld refl 65535 (lit≤ tt) (r .slots) i s (R .four) h (r .tallies .held) (R .held) (slot-fits h),
+      moved-true oneGathering refl 1 (lit≤ tt) (r .slots) i x (R .four) h (r .tallies .gathering) (R .gathering)
+          (λ j hj. one-at-most (slotAt (withSlot r i x .slots) j)),
+      moved-true bytesHeld refl 65535 (lit≤ tt) (r .slots) i x (R .four) h (r .tallies .held) (R .held) (slot-fits h),
     ))
     (λ (n : i < 4 → ⊥).
-    let past = past-last r i s (omega (arith, R .four))
+    let past = past-last r i x (omega (arith, R .four))
     (omega (arith, R .gathering, sum-at-most oneGathering 1 (r .slots) (λ j hj. one-at-most (slotAt (r .slots) j))))
     (omega (arith, R .held, sum-at-most bytesHeld 1024 (r .slots) holds)) in
     subst
-    (λ (x : Receiver). (x .tallies .gathering ≡ gatheringIn (x .slots)) × (x .tallies .held ≡ heldIn (x .slots)))
+    (λ (q : Receiver). (q .tallies .gathering ≡ gatheringIn (q .slots)) × (q .tallies .held ≡ heldIn (q .slots)))
     (sym past) (R .gathering, R .held))
   where
     holds : (j : ℕ) → j < 4 → bytesHeld (slotAt (r .slots) j) ≤ 1024
     holds j hj = slot-holds most (r .setup) (slotAt (r .slots) j) (R .each j hj)
 
-    slot-fits : i < 4 → (j : ℕ) → j < 4 → bytesHeld (slotAt (withState r i s .slots) j) ≤ 65535
+    slot-fits : i < 4 → (j : ℕ) → j < 4 → bytesHeld (slotAt (withSlot r i x .slots) j) ≤ 65535
     slot-fits h j hj =
         dite (ℕ-discrete j i)
         (λ (e : j ≡ i).
-        let same = ap (λ (k : ℕ). bytesHeld (slotAt (withState r i s .slots) k)) e
-        ∙ ap bytesHeld (slot-same (r .slots) i s (omega (arith, R .four))) in
+        let same = ap (λ (k : ℕ). bytesHeld (slotAt (withSlot r i x .slots) k)) e
+        ∙ ap bytesHeld (slot-same (r .slots) i x (omega (arith, R .four))) in
         omega (arith, same))
-        (λ (d : j ≡ i → ⊥). omega (arith, ap bytesHeld (slot-other (r .slots) i j s d), holds j hj))
+        (λ (d : j ≡ i → ⊥). omega (arith, ap bytesHeld (slot-other (r .slots) i j x d), holds j hj))

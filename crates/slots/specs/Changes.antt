@@ -1,4 +1,4 @@
--- How a state changes: set-up, a slot's state set anew, a packet or a message counted, a slot freed.
+-- How a state changes: set-up, a slot set anew, a packet or a message counted, a slot freed.
 -- Assumes nothing.
 use Prim.Native.Nat.{ℕ}
 use mathlib.Core.Bool.{_&&_}
@@ -8,17 +8,12 @@ use lib.ListN.{set}
 use Rattle.octets.specs.Choice.{pick}
 use Rattle.slots.specs.declared.state.Setup.{Setup}
 use Rattle.slots.specs.declared.state.Slot.{Slot}
-use Rattle.slots.specs.declared.state.SlotState.{SlotState}
-use Rattle.slots.specs.declared.state.SlotState.the-variants.{Free}
 use Rattle.slots.specs.declared.state.Tallies.{Tallies}
 use Rattle.slots.specs.declared.state.Receiver.{Receiver}
 use Rattle.slots.specs.Setup.{rightSetup}
-use Rattle.slots.specs.Slots.{slotAt}
+use Rattle.slots.specs.Slots.{freeSlot, slotAt}
 use Rattle.slots.specs.State.{rightState}
 use Rattle.slots.specs.Tallies.{nextTally, movedTallies}
-
-abbrev pub freeSlot : Slot
-freeSlot = record { state = Free }
 
 abbrev pub allZero : Tallies
 allZero = record { gathering = 0; held = 0; offered = 0; done = 0 }
@@ -36,9 +31,9 @@ withSlots r i slots =
       tallies = movedTallies (r .tallies) (slotAt (r .slots) i) (slotAt slots i);
     }
 
--- the receiver with slot i in another state; past the last slot there is nothing to change
-abbrev pub withState : Receiver → (slot : ℕ) → SlotState → Receiver
-withState r i s = withSlots r i (set (r .slots) i (record { state = s }))
+-- the receiver with another slot i; past the last slot there is nothing to change
+abbrev pub withSlot : Receiver → (slot : ℕ) → Slot → Receiver
+withSlot r i x = withSlots r i (set (r .slots) i x)
 
 -- the receiver with other tallies
 abbrev pub withTallies : Receiver → Tallies → Receiver
@@ -70,13 +65,13 @@ withDone r =
 unfoldable pub setUpRefusal : Setup → ℕ
 setUpRefusal s = pick (rightSetup s) 0 1
 
--- beside the 1 stands a receiver with the null EID
+-- beside the 1 stands a receiver with the null EID and the longest limit
 unfoldable pub setUpOf : Setup → Receiver
-setUpOf s = fresh (pick (rightSetup s) s (record { own = record { 0 = 0 } }))
+setUpOf s = fresh (pick (rightSetup s) s (record { own = record { 0 = 0 }; limit = 60000 }))
 
 -- "A separate call frees slot 0 to 3 (any other number: 1)"
 unfoldable pub freeRefusal : (most : ℕ) → Receiver → (slot : ℕ) → ℕ
 freeRefusal most r i = pick (rightState most r && ltb i 4) 0 1
 
 unfoldable pub freedOf : (most : ℕ) → Receiver → (slot : ℕ) → Receiver
-freedOf most r i = pick (rightState most r && ltb i 4) (withState r i Free) r
+freedOf most r i = pick (rightState most r && ltb i 4) (withSlot r i freeSlot) r

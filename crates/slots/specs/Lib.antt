@@ -3,3 +3,4 @@ pub mod Slots
 pub mod Tallies
 pub mod State
 pub mod Changes
+pub mod Ages

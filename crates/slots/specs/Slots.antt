@@ -12,9 +12,16 @@ use Rattle.slots.specs.declared.state.Slot.{Slot}
 use Rattle.slots.specs.declared.state.SlotState.{SlotState}
 use Rattle.slots.specs.declared.state.SlotState.the-variants.{Free, Gathering}
 
+abbrev pub freeSlot : Slot
+freeSlot = record { state = Free; since = 0 }
+
 -- the state of slot i; past the last slot there is nothing, and it reads as free
 abbrev pub slotAt : List Slot → (i : ℕ) → SlotState
-slotAt slots i = getD slots i (record { state = Free }) .state
+slotAt slots i = getD slots i freeSlot .state
+
+-- "each gathering slot keeps the count of its last accepted packet": the count of slot i
+abbrev pub sinceAt : List Slot → (i : ℕ) → ℕ
+sinceAt slots i = getD slots i freeSlot .since
 
 abbrev pub isFree : SlotState → Bool
 isFree Free = true

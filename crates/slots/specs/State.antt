@@ -1,4 +1,5 @@
--- What makes a receiver's state right (document 01, "Putting messages together"; document 02, #102): exactly that list.
+-- What makes a receiver's state right (document 01, "Putting messages together"; document 02, #102, #106): exactly that
+-- list.
 -- Assumes nothing.
 use Prim.Native.Nat.{ℕ, _%_}
 use mathlib.Core.Bool.{Bool, true, false, not, _&&_}

@@ -1,10 +1,8 @@
-// The changes of a state: set-up, a slot freed, a slot's state set anew.
+// The changes of a state: set-up, a slot freed, a slot set anew.
 use crate::check;
-use crate::find;
 use crate::state::Receiver;
 use crate::state::Setup;
 use crate::state::Slot;
-use crate::state::SlotState;
 use crate::state::Tallies;
 use crate::tally;
 use mctp::Eid;
@@ -12,7 +10,7 @@ use mctp::Outcome;
 use mctp::Refusal;
 ghost use mathlib.Core.Path.{_≡_};
 ghost use Rattle.mctp.specs.Refusals.{outcomeNumber};
-ghost use Rattle.slots.specs.Changes.{fresh, withState, setUpRefusal, setUpOf, freeRefusal, freedOf};
+ghost use Rattle.slots.specs.Changes.{fresh, withSlot, setUpRefusal, setUpOf, freeRefusal, freedOf};
 
 // The outcome, and the receiver as the call leaves it.
 pub struct Changed {
@@ -20,20 +18,28 @@ pub struct Changed {
     pub receiver: Receiver,
 }
 
-// A fresh receiver with this own EID; refused, one with the null EID stands beside the refusal.
-pub fn set_up(own: Eid) -> Changed
-    ensures number { λ r. ⌜ outcomeNumber (r .outcome) ≡ setUpRefusal (record { own = own }) ⌝ }
-    ensures receiver { λ r. ⌜ r .receiver ≡ setUpOf (record { own = own }) ⌝ }
+// A fresh receiver with this own EID, whose slots are freed once they are older than `limit` milliseconds; refused, one
+// with the null EID and the longest limit stands beside the refusal.
+pub fn set_up(own: Eid, limit: u32) -> Changed
+    ensures number { λ r. ⌜ outcomeNumber (r .outcome) ≡ setUpRefusal (record { own = own; limit = limit }) ⌝ }
+    ensures receiver { λ r. ⌜ r .receiver ≡ setUpOf (record { own = own; limit = limit }) ⌝ }
 {
-    if own.is_endpoint() {
+    let setup = Setup {
+        own: own,
+        limit: limit,
+    };
+    if check::setup_right(setup) {
         return Changed {
             outcome: Outcome::Good,
-            receiver: fresh_of(Setup { own: own }),
+            receiver: fresh_of(setup),
         };
     }
     Changed {
         outcome: Outcome::Refused(Refusal::Setup),
-        receiver: fresh_of(Setup { own: Eid::NULL }),
+        receiver: fresh_of(Setup {
+            own: Eid::NULL,
+            limit: Setup::LONGEST_LIMIT,
+        }),
     }
 }
 
@@ -46,17 +52,14 @@ pub fn free(receiver: Receiver, slot: usize) -> Changed
 }
 
 // The only write of a slot; the tallies move with it.
-pub fn with_state(receiver: Receiver, slot: usize, state: SlotState) -> Receiver
-    ensures { λ r. ⌜ r ≡ withState receiver slot state ⌝ }
+pub fn with_slot(receiver: Receiver, slot: usize, new: Slot) -> Receiver
+    ensures { λ r. ⌜ r ≡ withSlot receiver slot new ⌝ }
 {
+    let slots = receiver.slots;
     if slot < 4 {
-        let before = Slot {
-            state: find::state_at(receiver, slot),
-        };
-        let now = Slot { state: state };
-        let moved = tally::moved_tallies(receiver.tallies, before, now);
+        let moved = tally::moved_tallies(receiver.tallies, slots[slot], new);
         let mut next = receiver;
-        next.slots[slot] = now;
+        next.slots[slot] = new;
         next.tallies = moved;
         return next;
     }
@@ -70,7 +73,7 @@ fn free_within(most: usize, receiver: Receiver, slot: usize) -> Changed
     if check::right_within(most, receiver) & (slot < 4) {
         return Changed {
             outcome: Outcome::Good,
-            receiver: with_state(receiver, slot, SlotState::Free),
+            receiver: with_slot(receiver, slot, Slot::FREE),
         };
     }
     Changed {
@@ -82,12 +85,9 @@ fn free_within(most: usize, receiver: Receiver, slot: usize) -> Changed
 fn fresh_of(setup: Setup) -> Receiver
     ensures { λ r. ⌜ r ≡ fresh setup ⌝ }
 {
-    let free = Slot {
-        state: SlotState::Free,
-    };
     Receiver {
         setup: setup,
-        slots: [free, free, free, free],
+        slots: [Slot::FREE, Slot::FREE, Slot::FREE, Slot::FREE],
         tallies: Tallies {
             gathering: 0,
             held: 0,

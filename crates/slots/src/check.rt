@@ -7,7 +7,7 @@ use crate::tally;
 use mctp::Eid;
 use mctp::Key;
 ghost use mathlib.Core.Path.{_≡_};
-ghost use Rattle.slots.specs.Setup.{oursOf};
+ghost use Rattle.slots.specs.Setup.{rightSetup, oursOf};
 ghost use Rattle.slots.specs.Slots.{hasKey};
 ghost use Rattle.slots.specs.State.{multiple, rightNumbers, rightSlot, clash, fourRight, fourApart, rightState};
 
@@ -29,10 +29,18 @@ pub fn right_within(most: usize, receiver: Receiver) -> bool
     let c = slots[2];
     let d = slots[3];
     mctp::body_right(most)
-        & setup.own.is_endpoint()
+        & setup_right(setup)
         & four_right(most, setup, a, b, c, d)
         & four_apart(a, b, c, d)
         & tally::right_tallies(receiver.tallies, a, b, c, d)
+}
+
+// Whether a receiver may be set up with this.
+pub fn setup_right(setup: Setup) -> bool
+    ensures { λ r. ⌜ r ≡ rightSetup setup ⌝ }
+{
+    let own = setup.own;
+    own.is_endpoint() & ((1 <= setup.limit) & (setup.limit <= Setup::LONGEST_LIMIT))
 }
 
 // Whether 16 lets this destination through.

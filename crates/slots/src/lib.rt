@@ -1,14 +1,17 @@
-// The receiver's state: its set-up, its four slots, its tallies, what makes them right, and a slot freed.
+// The receiver's state: its set-up, its four slots, its tallies, what makes them right, and slots freed by a
+// call or by age.
+mod age;
 mod change;
 mod check;
 mod find;
 mod state;
 mod tally;
 
+pub use age::expired;
 pub use change::Changed;
 pub use change::free;
 pub use change::set_up;
-pub use change::with_state;
+pub use change::with_slot;
 pub use check::ours;
 pub use check::right;
 pub use check::right_within;

@@ -11,7 +11,7 @@ unfolding freeRefusal freedOf
 returns c =
     let right = c .before .before .right-within .ensures in (
       rw (sym right, c .before .if1 .taken),
-      rw (sym right, c .before .if1 .taken, c .with-state .ensures),
+      rw (sym right, c .before .if1 .taken, c .with-slot .ensures),
     )
 
 returns-2 : tie.Need-returns-2

@@ -9,14 +9,14 @@ use Rattle.slots.proofs.change.set_up.Tie as tie
 returns : tie.Need-returns
 unfolding setUpRefusal setUpOf
 returns c =
-    let endpoint = sym (c .before .before .is-endpoint .ensures) ∙ c .before .if1 .taken in
-    (rw endpoint, rw (endpoint, c .fresh-of .ensures))
+    let right = sym (c .before .before .setup-right .ensures) ∙ c .before .if1 .taken in
+    (rw right, rw (right, c .fresh-of .ensures))
 
 returns-2 : tie.Need-returns-2
 unfolding setUpRefusal setUpOf
 returns-2 c =
-    let not-endpoint = sym (c .before .before .is-endpoint .ensures) ∙ c .before .if1 .left in
-    (rw not-endpoint, rw (not-endpoint, c .fresh-of2 .ensures))
+    let wrong = sym (c .before .before .setup-right .ensures) ∙ c .before .if1 .left in
+    (rw wrong, rw (wrong, c .fresh-of2 .ensures))
 
 pub set-up-spec : {M : Type 1} → statement M
 set-up-spec =

@@ -23,7 +23,7 @@ returns c =
       eq-eqb (length slots) 4 four,
       and-true,
       c .before .before .before .before .body-right .ensures,
-      c .before .before .before .is-endpoint .ensures,
+      c .before .before .before .setup-right .ensures,
       c .before .before .four-right .ensures,
       c .before .four-apart .ensures,
       c .right-tallies .ensures,
