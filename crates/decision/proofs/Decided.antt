@@ -26,7 +26,7 @@ use Rattle.slots.specs.declared.state.SlotState.{SlotState}
 use Rattle.slots.specs.declared.state.SlotState.the-variants.{Free, Gathering}
 use Rattle.slots.specs.declared.state.Receiver.{Receiver}
 use Rattle.slots.specs.Setup.{oursOf}
-use Rattle.slots.specs.Slots.{slotAt, isFree, hasKey, slotOf, lowestFree}
+use Rattle.slots.specs.Slots.{freeSlot, slotAt, isFree, hasKey, slotOf, lowestFree}
 use Rattle.slots.specs.State.{rightSlot, clash, rightState}
 use Rattle.slots.proofs.States.{Right, right-of, most-bounds}
 use Rattle.slots.proofs.Found.{key-alone, slot-of-has, slot-of-none, lowest-is-free}
@@ -87,7 +87,7 @@ gathers-below l i k q u h four e =
     (λ (n : i < 4 → ⊥).
     let past : length l ≤ i = omega arith in
     absurd (true≢false (sym (ap (λ (x : Slot). isFree (x .state))
-    (List·getD-eq-default l (record { state = Free }) past)) ∙ ap isFree e)))
+    (List·getD-eq-default l freeSlot past)) ∙ ap isFree e)))
 
 -- a packet that no check refuses, in a right state and a memory of the right size
 module _ (most : ℕ) (r : Receiver) (size : ℕ) (p : List ℕ) (P : Decision → Type 0) (cases : Cases most r size p P)

@@ -1,4 +1,5 @@
 pub mod Ruled
+pub mod Passed
 pub mod Decided
 pub mod Determined
 pub mod Literal

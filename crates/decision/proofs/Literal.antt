@@ -8,13 +8,14 @@ use lib.ListN.{replicate}
 use Rattle.mctp.specs.Key.{keyOf, headerOf, sameKey}
 use Rattle.slots.specs.declared.state.Receiver.{Receiver}
 use Rattle.slots.specs.declared.state.SlotState.the-variants.{Free, Gathering}
-use Rattle.slots.specs.Slots.{firstOf, slotOf, lowestFree}
+use Rattle.slots.specs.Slots.{freeSlot, firstOf, slotOf, lowestFree}
 use Rattle.slots.specs.State.{multiple, rightNumbers, rightSlot, clash, rightState}
 use Rattle.slots.specs.Tallies.{sumOf}
-use Rattle.slots.specs.Changes.{freeSlot, fresh}
-use Rattle.slots.proofs.Literal.{with-slots, card, key, slot, gathering}
+use Rattle.slots.specs.Changes.{fresh}
+use Rattle.slots.specs.Ages.{expiredTo}
+use Rattle.slots.proofs.Literal.{setup, with-slots, tallied, card, key, slot, gathering}
 use Rattle.decision.specs.Rules.{Decision, refuse, release, put, after, onStart, gathered, onFollow, ruled}
-use Rattle.decision.specs.Decision.{decided}
+use Rattle.decision.specs.Decision.{agedOf, decided}
 
 -- a packet from EID 10 to EID 9 with these flags and n bytes of one value
 abbrev pub packet : ℕ → ℕ → ℕ → List ℕ
@@ -34,7 +35,7 @@ full = with-slots (gathering 4 64) (gathering 5 64) (gathering 6 1024) (gatherin
 
 pub record Literals : Type 0 where
   -- "Order there: 1, 2 (memory size), 3, 15, 16, 17, then": 1 before 2, .., 17 before 18 and before 19
-  pub order : decided 64 (fresh (record { own = record { 0 = 7 } })) 4095 (packet 0xC8 1 0)
+  pub order : decided 64 (fresh (setup 7 1000)) 4095 (packet 0xC8 1 0)
       ∷ decided 64 card 4095 (1 ∷ 9 ∷ 10 ∷ 0xC8 ∷ [])
       ∷ decided 64 card 4096 (2 ∷ 9 ∷ 10 ∷ 0xC8 ∷ [])
       ∷ decided 64 card 4096 (2 ∷ 11 ∷ 10 ∷ 0xC8 ∷ 0 ∷ [])
@@ -94,11 +95,18 @@ pub record Literals : Type 0 where
       ∷ put 0 2 false Free
       ∷ release 0 21
       ∷ []
+  -- "Before anything but checks 1 and 2": at 1,001 a slot of count 0 is freed, unless the memory's size or the state
+  -- (its tallies tell a slot too many) is refused
+  pub aged : agedOf 64 1001 full 4096
+      ∷ agedOf 64 1001 full 4095
+      ∷ agedOf 64 1001 (tallied 5 1216 0 0 full) 4096
+      ∷ []
+      ≡ card ∷ full ∷ tallied 5 1216 0 0 full ∷ []
 
 pub literals : Literals
 unfolding decided ruled onStart onFollow gathered after
     slotOf lowestFree firstOf headerOf keyOf sameKey rightState rightSlot rightNumbers multiple clash
-    sumOf
+    sumOf expiredTo
 literals =
     record {
       order = refl;
@@ -111,4 +119,5 @@ literals =
       starts = refl;
       follows = refl;
       units = refl;
+      aged = refl;
     }
