@@ -1,232 +1,188 @@
--- The laws of one packet given to the message rules, in any state, with any memory.
+-- The laws of one packet given to the message rules, in any state, with any memory, at any count.
 -- Assumes nothing.
-use mathlib.Core.Path.{_≡_, refl, ap, sym, _∙_}
-use mathlib.Core.Bool.{Bool, true}
+use mathlib.Core.Path.{_≡_, refl, ap, sym, subst, _∙_}
+use mathlib.Core.Bool.{Bool, true, false, _&&_}
 use mathlib.Core.List.{List}
-use Prim.Native.Nat.{ℕ, _+_, _*_, _≤_, _<_}
+use Prim.Native.Nat.{ℕ, _+_, _≤_}
 use native.Mathlib.Omega.{arith}
 use contract.Lifetimes.{Lfts}
-use borrow.Author.Tests.{le-ltb, lt-ltb}
-use lib.Dec.{ltb, lit<}
-use lib.ListN.{length, getD}
+use borrow.Author.Tests.{le-ltb, lt-ltb, eq-eqb}
+use lib.Dec.{eqb, ltb, lit≤}
+use lib.ListN.{length}
 use Rattle.octets.specs.Choice.{pick}
-use Rattle.octets.proofs.Choice.{pick-elim, within-bounds}
-use Rattle.octets.proofs.Laid.{laid-length, laid-before, laid-behind}
+use Rattle.octets.proofs.Choice.{pick-elim, either-way, both}
 use Rattle.mctp.specs.Packet.{bodyOf}
-use Rattle.mctp.specs.Key.{keyOf}
-use Rattle.slots.specs.declared.state.Slot.{Slot}
-use Rattle.slots.specs.declared.state.SlotState.{SlotState}
-use Rattle.slots.specs.declared.state.SlotState.the-variants.{Free, Gathering}
+use Rattle.mctp.specs.Key.{keyOf, headerOf}
 use Rattle.slots.specs.declared.state.Receiver.{Receiver}
-use Rattle.slots.specs.Slots.{slotAt}
 use Rattle.slots.specs.State.{rightState}
-use Rattle.slots.specs.Changes.{withState, withOffered}
-use Rattle.slots.proofs.Slots.{slot-other}
-use Rattle.slots.proofs.States.{right-of, right-holds, with-right}
-use Rattle.slots.proofs.Changes.{free-right, offered-right, done-right}
-use Rattle.decision.specs.Rules.{Decision, refuse, planned}
-use Rattle.decision.specs.Decision.{decided}
-use Rattle.decision.proofs.Decided.{every-decision, frees-none-bounds}
+use Rattle.slots.specs.Changes.{withOffered}
+use Rattle.slots.specs.Ages.{expired}
+use Rattle.slots.proofs.Ages.{expired-setup, expired-counts, expired-right}
+use Rattle.decision.specs.Rules.{refuse, planned, after}
+use Rattle.decision.specs.Decision.{agedOf, decided}
+use Rattle.decision.proofs.Passed.{aged-expired, every-passed, not-passed}
 use Rattle.decision.proofs.decide.Reads as decide
 use Rattle.receiver.specs.Effects.{Unchanged, SlotFreed}
-use Rattle.receiver.specs.Step.{refused, answerOf, afterPut, carriedOut, offers, afterOffer, stepOf}
+use Rattle.receiver.specs.Step.{refused, carriedOut, afterOffer, offeredTo, stepOf}
+use Rattle.receiver.proofs.Offered.{offer-setup, offer-slots, offered-stays-right, refusal-leaves, refusal-freed}
+use Rattle.receiver.proofs.Offered.{put-answers, OneSlot, offered-one-slot}
 
--- giving a packet is the decision carried out, on the receiver that has counted it
-pub step-is-decision : (most : ℕ) (r : Receiver) (m p : List ℕ)
-    → stepOf most r m p
-    ≡ carriedOut (afterOffer r (decided most r (length m) p)) m p (decided most r (length m) p)
+-- giving a packet is the decision carried out, on the receiver that has freed its old slots and counted the packet
+pub step-is-decision : (most time : ℕ) (r : Receiver) (m p : List ℕ)
+    → let q = agedOf most time r (length m) in
+    stepOf most time r m p
+    ≡ carriedOut time (afterOffer q (decided most q (length m) p)) m p (decided most q (length m) p)
+unfolding stepOf offeredTo
+step-is-decision most time r m p = refl
+
+-- and so it is with any result that the contract of `decide` allows
+pub step-is-plan : (κs : Lfts 1) (a d e : _) → decide.Post κs a d e → (m : List ℕ) → length m ≡ a .1 .0
+    → let p = a .1 .1 .0 .now in
+    let time = a .1 .1 .1 .0 in
+    stepOf 64 time (a .0) m p ≡ carriedOut time (afterOffer (d .receiver) (planned (d .plan))) m p (planned (d .plan))
+step-is-plan κs a d e post m n =
+    let p = a .1 .1 .0 .now in
+    let time = a .1 .1 .1 .0 in
+    let aged = ap (agedOf 64 time (a .0)) n ∙ sym (post .0) in
+    let plan = ap (λ (k : ℕ). decided 64 (agedOf 64 time (a .0) k) k p) n ∙ sym (post .1) in
+    step-is-decision 64 time (a .0) m p ∙ (λ j. carriedOut time (afterOffer (aged j) (plan j)) m p (plan j))
+
+module _ (most time : ℕ) (r : Receiver) (size : ℕ) where
+  -- old slots freed or not: the set-up stays, and a right state stays right
+  pub aged-setup : agedOf most time r size .setup ≡ r .setup
+  aged-setup =
+      pick-elim (λ (q : Receiver). q .setup ≡ r .setup) (rightState most r && eqb size 4096) (expired time r) r
+      (λ e. expired-setup time r 4 (lit≤ tt)) (λ e. refl)
+
+  pub aged-right : rightState most r ≡ true → rightState most (agedOf most time r size) ≡ true
+  aged-right right =
+      pick-elim (λ (q : Receiver). rightState most q ≡ true) (rightState most r && eqb size 4096) (expired time r) r
+      (λ e. expired-right time r most right) (λ e. right)
+
+  -- nothing is counted yet
+  pub aged-counts : (agedOf most time r size .tallies .offered ≡ r .tallies .offered)
+      × (agedOf most time r size .tallies .done ≡ r .tallies .done)
+  aged-counts =
+      pick-elim
+      (λ (q : Receiver). (q .tallies .offered ≡ r .tallies .offered) × (q .tallies .done ≡ r .tallies .done))
+      (rightState most r && eqb size 4096) (expired time r) r (λ e. expired-counts time r) (λ e. (refl, refl))
+
+-- a wrong state: 1, and nothing changes
+pub wrong-refused : (most time : ℕ) (r : Receiver) (m p : List ℕ) → rightState most r ≡ false
+    → stepOf most time r m p ≡ record { said = refused 1; receiver = r; memory = m }
+unfolding stepOf offeredTo decided
+wrong-refused most time r m p e =
+    let same : agedOf most time r (length m) ≡ r =
+    ap (λ (b : Bool). pick (b && eqb (length m) 4096) (expired time r) r) e in
+    ap (λ (q : Receiver). offeredTo most time q m p) same ∙ rw e
+
+-- past 1 and 2 a packet is offered to the receiver that has freed its old slots
+pub step-offered : (most time : ℕ) (r : Receiver) (m p : List ℕ) → rightState most r ≡ true → length m ≡ 4096
+    → stepOf most time r m p ≡ offeredTo most time (expired time r) m p
 unfolding stepOf
-step-is-decision most r m p = refl
-
--- and so it is with any plan that the contract of `decide` allows
-pub step-is-plan : (κs : Lfts 1) (a plan e : _) → decide.Post κs a plan e → (m : List ℕ) → length m ≡ a .1 .0
-    → stepOf 64 (a .0) m (a .1 .1 .0 .now)
-    ≡ carriedOut (afterOffer (a .0) (planned plan)) m (a .1 .1 .0 .now) (planned plan)
-step-is-plan κs a plan e p m n =
-    step-is-decision 64 (a .0) m (a .1 .1 .0 .now)
-    ∙ ap (λ (d : Decision). carriedOut (afterOffer (a .0) d) m (a .1 .1 .0 .now) d)
-    (ap (λ (k : ℕ). decided 64 (a .0) k (a .1 .1 .0 .now)) n ∙ sym p)
-
--- a packet that is counted leaves set-up and slots, and a right state right
-pub offer-setup : (r : Receiver) (d : Decision) → afterOffer r d .setup ≡ r .setup
-offer-setup r d = pick-elim (λ (q : Receiver). q .setup ≡ r .setup) (offers d) (withOffered r) r (λ e. refl) (λ e. refl)
-
-pub offer-slots : (r : Receiver) (d : Decision) → afterOffer r d .slots ≡ r .slots
-offer-slots r d = pick-elim (λ (q : Receiver). q .slots ≡ r .slots) (offers d) (withOffered r) r (λ e. refl) (λ e. refl)
-
-put-right : (most : ℕ) (then : SlotState) (r : Receiver) → rightState most r ≡ true
-    → rightState most (afterPut then r) ≡ true
-put-right most Free r e = done-right most r e
-put-right most (Gathering k q u h) r e = e
+step-offered most time r m p right size =
+    ap (λ (q : Receiver). offeredTo most time q m p)
+    (aged-expired most time r (length m) p right (eq-eqb (length m) 4096 size))
 
 -- a right state stays right
-pub step-right : (most : ℕ) (r : Receiver) (m p : List ℕ) → rightState most r ≡ true
-    → rightState most (stepOf most r m p .receiver) ≡ true
+pub step-right : (most time : ℕ) (r : Receiver) (m p : List ℕ) → rightState most r ≡ true
+    → rightState most (stepOf most time r m p .receiver) ≡ true
 unfolding stepOf
-step-right most r m p e =
-    let counted = offered-right most r e in
-    every-decision most r (length m) p (λ d. rightState most (carriedOut (afterOffer r d) m p d .receiver) ≡ true)
-    (record {
-      refuses = λ n b. pick-elim (λ (q : Receiver). rightState most q ≡ true) (ltb 2 n) (withOffered r) r
-          (λ c. counted) (λ c. e);
-      releases = λ x i n h b k. free-right most (withOffered r) i h counted;
-      puts = λ x s i at again then f. put-right most then (withState (withOffered r) i then)
-          (right-holds most (withState (withOffered r) i then)
-          (with-right most (withOffered r) (right-of most (withOffered r) counted) i then (f .slot) (f .right)
-          (f .alone)));
-    })
+step-right most time r m p e =
+    offered-stays-right most time (agedOf most time r (length m)) m p (aged-right most time r (length m) e)
 
--- a body that is put is not refused
-put-answers : (then : SlotState) (i b : ℕ) (again : Bool) (n : ℕ) → answerOf then i b again ≡ refused n → ⊥
-put-answers Free i b again n s =
-    let z : _≡_ {A = ℕ} 0 1 = cc in
-    omega arith
-put-answers (Gathering k q u h) i b again n s =
-    let z : _≡_ {A = ℕ} 0 1 = cc in
-    omega arith
+-- a packet that has been counted changes at most one slot and that slot's 1,024 bytes
+pub one-slot : (most time : ℕ) (r : Receiver) (m p : List ℕ)
+    → let q = agedOf most time r (length m) in
+    OneSlot (afterOffer q (decided most q (length m) p)) m (stepOf most time r m p .receiver)
+    (stepOf most time r m p .memory)
+unfolding stepOf
+one-slot most time r m p = offered-one-slot most time (agedOf most time r (length m)) m p
 
-module _ (most : ℕ) (r : Receiver) (m p : List ℕ) (n : ℕ) (e : stepOf most r m p .said ≡ refused n) where
-  -- refused with anything but 20, 21, 22: the memory is unchanged, and so is the receiver, once it has counted
-  refused-leaves : (20 ≤ n → n ≤ 22 → ⊥)
-      → Unchanged (pick (ltb 2 n) (withOffered r) r) m (stepOf most r m p .receiver) (stepOf most r m p .memory)
-  unfolding stepOf
-  refused-leaves frees-none =
-      every-decision most r (length m) p
-      (λ d. carriedOut (afterOffer r d) m p d .said ≡ refused n
-      → Unchanged (pick (ltb 2 n) (withOffered r) r) m (carriedOut (afterOffer r d) m p d .receiver)
-      (carriedOut (afterOffer r d) m p d .memory))
+-- set-up and the memory's size stay
+pub step-setup : (most time : ℕ) (r : Receiver) (m p : List ℕ) → stepOf most time r m p .receiver .setup ≡ r .setup
+step-setup most time r m p =
+    let q = agedOf most time r (length m) in
+    one-slot most time r m p .setup ∙ offer-setup q (decided most q (length m) p) ∙ aged-setup most time r (length m)
+
+pub step-size : (most time : ℕ) (r : Receiver) (m p : List ℕ) → length (stepOf most time r m p .memory) ≡ length m
+step-size most time r m p = one-slot most time r m p .size
+
+module _ (most time : ℕ) (r : Receiver) (m p : List ℕ) (n : ℕ) (e : stepOf most time r m p .said ≡ refused n) where
+  abbrev passes : Bool
+  passes = rightState most r && eqb (length m) 4096
+
+  -- a call that passes 1 and 2 is refused with neither, and one that doesn't with one of them
+  past-2 : passes ≡ true → 3 ≤ n
+  unfolding stepOf offeredTo
+  past-2 t =
+      let h = both (rightState most r) (eqb (length m) 4096) t in
+      let q = agedOf most time r (length m) in
+      let body = length (bodyOf p) in
+      every-passed most time r (length m) p (h .0) (h .1)
+      (λ d. carriedOut time (afterOffer q d) m p d .said ≡ refused n → 3 ≤ n)
       (record {
-        refuses = λ k b s.
-            let same : k ≡ n = cc in
-            record { receiver = ap (λ (j : ℕ). pick (ltb 2 j) (withOffered r) r) same; memory = refl };
-        releases = λ x i k h b c s.
-            let same : k ≡ n = cc in
-            absurd (none k same (within-bounds 20 22 k b));
-        puts = λ x y i at again then f s. absurd (put-answers then i (at + length (bodyOf p)) again n s);
+        refuses = λ k b s. let same : k ≡ n = cc in omega arith;
+        releases = λ i k b s. let same : k ≡ n = cc in omega arith;
+        starts = λ x i again s. absurd (put-answers (after (headerOf p) body body) i (0 + body) again n s);
+        follows = λ i q u held k x s.
+            absurd (put-answers (after (headerOf p) u (held + body)) i (held + body) false n s);
       })
       e
-    where
-      none : (k : ℕ) → k ≡ n → (20 ≤ k) × (k ≤ 22) → ⊥
-      none k same b = frees-none (omega (arith, b .0)) (omega (arith, b .1))
 
-  -- slots and memory stay
-  pub refused-keeps : n ≤ 19 → (stepOf most r m p .receiver .slots ≡ r .slots) × (stepOf most r m p .memory ≡ m)
+  not-past-2 : passes ≡ false → n ≤ 2
+  unfolding stepOf offeredTo
+  not-past-2 t =
+      let q = agedOf most time r (length m) in
+      not-passed most time r (length m) p t
+      (λ d. carriedOut time (afterOffer q d) m p d .said ≡ refused n → n ≤ 2)
+      (λ s. let same : _≡_ {A = ℕ} 1 n = cc in omega arith)
+      (λ s. let same : _≡_ {A = ℕ} 2 n = cc in omega arith)
+      e
+
+  none-aged : n ≤ 2 → agedOf most time r (length m) ≡ r
+  none-aged low =
+      either-way passes (λ t. absurd (omega (arith, past-2 t))) (λ t. ap (λ (b : Bool). pick b (expired time r) r) t)
+
+  all-aged : 3 ≤ n → agedOf most time r (length m) ≡ expired time r
+  all-aged high =
+      either-way passes (λ t. ap (λ (b : Bool). pick b (expired time r) r) t)
+      (λ t. absurd (omega (arith, not-past-2 t)))
+
+  -- refused with anything but 20, 21, 22: the memory is unchanged, and so is the receiver, once it has aged and counted
+  leaves : (20 ≤ n → n ≤ 22 → ⊥)
+      → let q = agedOf most time r (length m) in
+      Unchanged (pick (ltb 2 n) (withOffered q) q) m (stepOf most time r m p .receiver) (stepOf most time r m p .memory)
+  unfolding stepOf
+  leaves = refusal-leaves most time (agedOf most time r (length m)) m p n e
+
+  -- but for old slots the slots stay, and the memory
+  pub refused-keeps : n ≤ 19
+      → (stepOf most time r m p .receiver .slots ≡ agedOf most time r (length m) .slots)
+      × (stepOf most time r m p .memory ≡ m)
   refused-keeps high =
-      let same = refused-leaves (λ low up. omega arith) in
-      (ap (λ (q : Receiver). q .slots) (same .receiver) ∙ offer-slots r (refuse n), same .memory)
+      let same = leaves (λ low up. omega arith) in (
+        ap (λ (q : Receiver). q .slots) (same .receiver) ∙ offer-slots (agedOf most time r (length m)) (refuse n),
+        same .memory,
+      )
 
-  -- "1 and 2 count nothing": all unchanged
-  pub refused-uncounted : n ≤ 2 → Unchanged r m (stepOf most r m p .receiver) (stepOf most r m p .memory)
-  refused-uncounted low = rw (le-ltb 2 n low) at (refused-leaves (λ twenty up. omega arith))
+  -- "1 and 2 count nothing", and free nothing: all unchanged
+  pub refused-uncounted : n ≤ 2 → Unchanged r m (stepOf most time r m p .receiver) (stepOf most time r m p .memory)
+  refused-uncounted low = rw (le-ltb 2 n low, none-aged low) at (leaves (λ twenty up. omega arith))
 
   -- "A packet refused with 3 or 15 to 22 counts as offered, and that tally is then the one further change to the
-  -- receiver": with 3 and 15 to 19, the one change
+  -- receiver": with 3 and 15 to 19, the one change but that "packet refusals may also leave expired slots free"
   pub refused-counted : 3 ≤ n → (n ≡ 20 → ⊥) → (n ≡ 21 → ⊥) → (n ≡ 22 → ⊥)
-      → Unchanged (withOffered r) m (stepOf most r m p .receiver) (stepOf most r m p .memory)
-  refused-counted low n20 n21 n22 = rw (lt-ltb 2 n low) at (refused-leaves (λ twenty up. omega arith))
+      → Unchanged (withOffered (expired time r)) m (stepOf most time r m p .receiver) (stepOf most time r m p .memory)
+  refused-counted low n20 n21 n22 = rw (lt-ltb 2 n low, all-aged low) at (leaves (λ twenty up. omega arith))
 
   -- refused with 20, 21, 22: the slot that has the packet's key becomes free too, memory unchanged
   pub refused-freed : 20 ≤ n
-      → SlotFreed (keyOf p) (withOffered r) m (stepOf most r m p .receiver) (stepOf most r m p .memory)
+      → SlotFreed (keyOf p) (withOffered (expired time r)) m (stepOf most time r m p .receiver)
+      (stepOf most time r m p .memory)
   unfolding stepOf
   refused-freed twenty =
-      every-decision most r (length m) p
-      (λ d. carriedOut (afterOffer r d) m p d .said ≡ refused n
-      → SlotFreed (keyOf p) (withOffered r) m (carriedOut (afterOffer r d) m p d .receiver)
-      (carriedOut (afterOffer r d) m p d .memory))
-      (record {
-        refuses = λ k b s.
-            let same : k ≡ n = cc in
-            absurd (none k same (frees-none-bounds k b .1));
-        releases = λ x i k h b c s. record {
-          slot = i;
-          one-of-four = h;
-          has-the-key = c;
-          receiver = refl;
-          memory = refl;
-        };
-        puts = λ x y i at again then f s. absurd (put-answers then i (at + length (bodyOf p)) again n s);
-      })
-      e
-    where
-      none : (k : ℕ) → k ≡ n → k ≤ 19 → ⊥
-      none k same high = omega arith
-
--- from receiver r and memory m to r₂ and m₂: at most one slot changes, and that slot's 1,024 bytes; the packets offered
--- stay
-pub record OneSlot (r : Receiver) (m : List ℕ) (r₂ : Receiver) (m₂ : List ℕ) : Type 0 where
-  pub slot : ℕ
-  pub one-of-four : slot < 4
-  pub setup : r₂ .setup ≡ r .setup
-  pub others : (j : ℕ) → (j ≡ slot → ⊥) → slotAt (r₂ .slots) j ≡ slotAt (r .slots) j
-  pub offered : r₂ .tallies .offered ≡ r .tallies .offered
-  pub size : length m₂ ≡ length m
-  pub bytes-before : (k : ℕ) → k < 1024 * slot → getD m₂ k 0 ≡ getD m k 0
-  pub bytes-behind : (k : ℕ) → 1024 * slot + 1024 ≤ k → getD m₂ k 0 ≡ getD m k 0
-
--- nothing changes
-pub no-slot : (r : Receiver) (m : List ℕ) → OneSlot r m r m
-no-slot r m =
-    record {
-      slot = 0;
-      one-of-four = lit< tt;
-      setup = refl;
-      others = λ j d. refl;
-      offered = refl;
-      size = refl;
-      bytes-before = λ k h. refl;
-      bytes-behind = λ k h. refl;
-    }
-
--- one slot becomes free
-pub freed-slot : (r : Receiver) (m : List ℕ) (i : ℕ) → i < 4 → OneSlot r m (withState r i Free) m
-freed-slot r m i h =
-    record {
-      slot = i;
-      one-of-four = h;
-      setup = refl;
-      others = λ j d. slot-other (r .slots) i j Free d;
-      offered = refl;
-      size = refl;
-      bytes-before = λ k g. refl;
-      bytes-behind = λ k g. refl;
-    }
-
--- a message that is done is counted, and nothing else
-pub put-fields : (then : SlotState) (r : Receiver)
-    → (afterPut then r .setup ≡ r .setup) × (afterPut then r .slots ≡ r .slots)
-    × (afterPut then r .tallies .offered ≡ r .tallies .offered)
-put-fields Free r = (refl, refl, refl)
-put-fields (Gathering k q u h) r = (refl, refl, refl)
-
--- a packet that has been counted changes at most one slot and that slot's 1,024 bytes
-pub one-slot : (most : ℕ) (r : Receiver) (m p : List ℕ)
-    → OneSlot (afterOffer r (decided most r (length m) p)) m (stepOf most r m p .receiver) (stepOf most r m p .memory)
-unfolding stepOf
-one-slot most r m p =
-    every-decision most r (length m) p
-    (λ d. OneSlot (afterOffer r d) m (carriedOut (afterOffer r d) m p d .receiver)
-    (carriedOut (afterOffer r d) m p d .memory))
-    (record {
-      refuses = λ n b. no-slot (afterOffer r (refuse n)) m;
-      releases = λ x i n h b c. freed-slot (withOffered r) m i h;
-      puts = λ x y i at again then f.
-          let same = put-fields then (withState (withOffered r) i then) in
-          record {
-            slot = i;
-            one-of-four = f .slot;
-            setup = same .0;
-            others = λ j d. ap (λ (l : List Slot). slotAt l j) (same .1) ∙ slot-other (r .slots) i j then d;
-            offered = same .2;
-            size = laid-length m (1024 * i + at) (bodyOf p);
-            bytes-before = λ k b. laid-before m (1024 * i + at) (bodyOf p) k (omega arith);
-            bytes-behind = λ k b. laid-behind m (1024 * i + at) (bodyOf p) k (omega (arith, f .place));
-          };
-    })
-
--- set-up and the memory's size stay
-pub step-setup : (most : ℕ) (r : Receiver) (m p : List ℕ) → stepOf most r m p .receiver .setup ≡ r .setup
-step-setup most r m p = one-slot most r m p .setup ∙ offer-setup r (decided most r (length m) p)
-
-pub step-size : (most : ℕ) (r : Receiver) (m p : List ℕ) → length (stepOf most r m p .memory) ≡ length m
-step-size most r m p = one-slot most r m p .size
+      subst
+      (λ (q : Receiver). SlotFreed (keyOf p) (withOffered q) m (stepOf most time r m p .receiver)
+      (stepOf most time r m p .memory))
+      (all-aged (omega arith)) (refusal-freed most time (agedOf most time r (length m)) m p n e twenty)

@@ -1,2 +1,5 @@
+pub mod Offered
 pub mod Laws
+pub mod Young
+pub mod Gone
 pub mod Determined

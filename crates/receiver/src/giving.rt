@@ -1,12 +1,14 @@
-// A packet given to the message rules: decided on, counted, and the decision carried out. Only here is the memory
-// touched.
+// A packet given to the message rules: old slots freed, the packet decided on and counted, and the decision carried
+// out. Only here is the memory touched.
 use decision::Plan;
 use mctp::Refusal;
 use slots::Receiver;
+use slots::Slot;
 use slots::SlotState;
 ghost use mathlib.Core.Path.{_≡_};
 ghost use Rattle.decision.specs.Rules.{planned};
-ghost use Rattle.receiver.specs.Step.{says, answerOf, left, afterPut, carriedOut, offers, afterOffer, stepOf};
+ghost use Rattle.receiver.specs.Step.{says, answerOf, left, afterPut, slotIn, carriedOut, offers, afterOffer};
+ghost use Rattle.receiver.specs.Step.{stepOf};
 
 // What the message rules answer.
 pub enum Answer {
@@ -30,18 +32,28 @@ pub struct Given {
     pub receiver: Receiver,
 }
 
-// One packet given: the answer and the receiver, with the memory changed in one slot at most.
-pub fn give(receiver: Receiver, memory: &mut [u8], packet: &[u8]) -> Given
-    ensures { λ r. ⌜ left r (now (memory .exit)) ≡ stepOf 64 receiver (now (memory .entry)) (now (packet .entry)) ⌝ }
+// One packet given at this millisecond count: the answer and the receiver, with the memory changed in one slot at most.
+pub fn give(receiver: Receiver, memory: &mut [u8], packet: &[u8], time: u32) -> Given
+    ensures { λ r. ⌜ left r (now (memory .exit))
+        ≡ stepOf 64 time receiver (now (memory .entry)) (now (packet .entry)) ⌝ }
 {
-    give_within(mctp::LARGEST_BODY, receiver, memory, packet)
+    give_within(mctp::LARGEST_BODY, receiver, memory, packet, time)
 }
 
-fn give_within(most: usize, receiver: Receiver, memory: &mut [u8], packet: &[u8]) -> Given
-    ensures { λ r. ⌜ left r (now (memory .exit)) ≡ stepOf most receiver (now (memory .entry)) (now (packet .entry)) ⌝ }
+fn give_within(
+    most: usize,
+    receiver: Receiver,
+    memory: &mut [u8],
+    packet: &[u8],
+    time: u32,
+) -> Given
+    ensures { λ r. ⌜ left r (now (memory .exit))
+        ≡ stepOf most time receiver (now (memory .entry)) (now (packet .entry)) ⌝ }
 {
-    let plan = decision::decide_within(most, receiver, memory.len(), packet);
-    carry_out(offered(receiver, plan), memory, packet, plan)
+    let decided = decision::decide_within(most, receiver, memory.len(), packet, time);
+    let plan = decided.plan;
+    let aged = decided.receiver;
+    carry_out(offered(aged, plan), memory, packet, plan, time)
 }
 
 // The receiver with the packet counted, unless its state or the memory is refused.
@@ -75,8 +87,8 @@ fn offers(plan: Plan) -> bool
     }
 }
 
-fn carry_out(receiver: Receiver, memory: &mut [u8], packet: &[u8], plan: Plan) -> Given
-    ensures { λ r. ⌜ left r (now (memory .exit)) ≡ carriedOut receiver (now (memory .entry)) (now (packet .entry))
+fn carry_out(receiver: Receiver, memory: &mut [u8], packet: &[u8], plan: Plan, time: u32) -> Given
+    ensures { λ r. ⌜ left r (now (memory .exit)) ≡ carriedOut time receiver (now (memory .entry)) (now (packet .entry))
         (planned plan) ⌝ }
 {
     match plan {
@@ -86,7 +98,7 @@ fn carry_out(receiver: Receiver, memory: &mut [u8], packet: &[u8], plan: Plan) -
         },
         Plan::Release { slot, refusal } => Given {
             answer: Answer::Refused { refusal: refusal },
-            receiver: slots::with_state(receiver, slot as usize, SlotState::Free),
+            receiver: slots::with_slot(receiver, slot as usize, Slot::FREE),
         },
         Plan::Put {
             slot,
@@ -100,9 +112,27 @@ fn carry_out(receiver: Receiver, memory: &mut [u8], packet: &[u8], plan: Plan) -
             octets::lay(memory, 1024 * place + before, body);
             Given {
                 answer: answer_of(then, slot, before + body.len(), again),
-                receiver: finished(slots::with_state(receiver, place, then), then),
+                receiver: finished(slots::with_slot(receiver, place, slot_in(then, time)), then),
             }
         }
+    }
+}
+
+// The slot as this packet leaves it.
+fn slot_in(state: SlotState, time: u32) -> Slot
+    ensures { λ r. ⌜ r ≡ slotIn state time ⌝ }
+{
+    match state {
+        SlotState::Free => Slot::FREE,
+        SlotState::Gathering {
+            key: _,
+            sequence: _,
+            unit: _,
+            held: _,
+        } => Slot {
+            state: state,
+            since: time,
+        },
     }
 }
 

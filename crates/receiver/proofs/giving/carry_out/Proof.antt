@@ -14,7 +14,7 @@ returns : tie.Need-returns
 returns c = rw (c .before .plan .given .1)
 
 returns-2 : tie.Need-returns-2
-returns-2 c = rw (c .before .before .plan2 .given .1, c .with-state .ensures)
+returns-2 c = rw (c .before .before .plan2 .given .1, c .with-slot .ensures)
 
 -- the body is what stands behind the packet's first four bytes, all of it
 body : (c : tie.After-part) → let p = c .before .before .before .before .before .before .args .packet .now in
@@ -25,13 +25,14 @@ body c =
 
 returns-3 : tie.Need-returns-3
 returns-3 c =
-    let laid = c .before .before .before .before .before in
+    let laid = c .before .before .before .before .before .before in
     let cut = laid .before .before in
     rw (
       cut .before .before .plan3 .given .1,
       c .finished .ensures,
-      c .before .with-state2 .ensures,
-      c .before .before .answer-of .ensures,
+      c .before .with-slot2 .ensures,
+      c .before .before .slot-in .ensures,
+      c .before .before .before .answer-of .ensures,
       laid .lay .ensures,
       body cut,
     )
@@ -42,4 +43,4 @@ carry-out-spec =
     (tie.spec (λ c. search needs) (λ c. search needs) (λ c. search needs) (λ c κs. search needs) (λ c. search needs)
     (λ c. search needs) (λ c. search needs) (λ c κs. search needs) (λ c. search needs) (λ c. search needs)
     (λ c κs. search needs) (λ c. search needs) (λ c κs. search needs) (λ c κs. search needs) (λ c κs. search needs)
-    returns returns-2 (λ c. search needs) returns-3)
+    (λ c κs. search needs) returns returns-2 (λ c. search needs) returns-3)
