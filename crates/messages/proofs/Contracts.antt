@@ -15,7 +15,7 @@ use Rattle.messages.proofs.memory.message.Reads as message
 
 -- `receiver::give`
 pub give-is-called : (κs : Lfts 2) (a r e : _) → giving.Post κs a r e
-    → called 64 (a .0) (a .1 .0 .now) (give (a .1 .1 .0 .now)) ≡ ofStep (left r (e .1 .0 .now))
+    → called 64 (a .0) (a .1 .0 .now) (give (a .1 .1 .1 .0) (a .1 .1 .0 .now)) ≡ ofStep (left r (e .1 .0 .now))
 give-is-called κs a r e p = ap ofStep (sym p)
 
 -- `slots::free`, with any memory beside it

@@ -17,17 +17,18 @@ use Rattle.slots.specs.declared.state.SlotState.the-variants.{Free, Gathering}
 use mathlib.Core.List.{List, [], _∷_, _++_, append-assoc}
 use Prim.Native.Nat.{ℕ, _+_, _*_, _≤_, _<_}
 use native.Mathlib.Omega.{arith}
-use lib.ListN.{length}
+use lib.ListN.{length, getD}
+use lib.Seq.{getD-set-other}
 use Rattle.slots.specs.declared.state.Receiver.{Receiver}
-use Rattle.slots.specs.Slots.{slotAt}
+use Rattle.slots.specs.Slots.{freeSlot}
 use Rattle.slots.specs.State.{rightState}
-use Rattle.slots.specs.Changes.{withState, freedOf}
-use Rattle.slots.proofs.Slots.{slot-other}
+use Rattle.slots.specs.Changes.{withSlot, freedOf}
 use Rattle.slots.proofs.Changes.{freed-right}
-use Rattle.decision.specs.Decision.{decided}
+use Rattle.decision.specs.Decision.{agedOf, decided}
 use Rattle.decision.proofs.Decided.{every-decision}
-use Rattle.receiver.specs.Step.{Said, refused, held, done, answerOf, carriedOut, afterOffer, stepOf}
-use Rattle.receiver.proofs.Laws.{OneSlot, no-slot, freed-slot, step-right, step-setup, one-slot}
+use Rattle.receiver.specs.Step.{Said, refused, held, done, answerOf, carriedOut, afterOffer, offeredTo, stepOf}
+use Rattle.receiver.proofs.Offered.{OneSlot, no-slot, freed-slot}
+use Rattle.receiver.proofs.Laws.{step-right, step-setup, one-slot}
 use Rattle.messages.specs.Run.{Call, give, free, Reply, rules, freed, message, Ran, called, joined, run}
 
 -- an answer that says that a body went into this slot
@@ -47,18 +48,18 @@ untouched slot (a ∷ answers) = not (wrote slot a) && untouched slot answers
 
 -- a slot freed leaves the others
 pub freed-others : (most : ℕ) (r : Receiver) (i j : ℕ) → (j ≡ i → ⊥)
-    → slotAt (freedOf most r j .slots) i ≡ slotAt (r .slots) i
+    → getD (freedOf most r j .slots) i freeSlot ≡ getD (r .slots) i freeSlot
 unfolding freedOf
 freed-others most r i j d =
-    pick-elim (λ (s : Receiver). slotAt (s .slots) i ≡ slotAt (r .slots) i) (rightState most r && ltb j 4)
-    (withState r j Free) r
-    (λ e. slot-other (r .slots) j i Free (λ s. d (sym s)))
+    pick-elim (λ (s : Receiver). getD (s .slots) i freeSlot ≡ getD (r .slots) i freeSlot)
+    (rightState most r && ltb j 4) (withSlot r j freeSlot) r
+    (λ e. getD-set-other (r .slots) j i freeSlot freeSlot (λ s. d (sym s)))
     (λ e. refl)
 
 freed-one-slot : (most : ℕ) (r : Receiver) (m : List ℕ) (j : ℕ) → OneSlot r m (freedOf most r j) m
 unfolding freedOf
 freed-one-slot most r m j =
-    pick-elim (λ (s : Receiver). OneSlot r m s m) (rightState most r && ltb j 4) (withState r j Free) r
+    pick-elim (λ (s : Receiver). OneSlot r m s m) (rightState most r && ltb j 4) (withSlot r j freeSlot) r
     (λ e. freed-slot r m j (ltb-true j 4 (both (rightState most r) (ltb j 4) e .1)))
     (λ e. no-slot r m)
 
@@ -94,26 +95,28 @@ module _ (most : ℕ) where
       (run most (run most (first .receiver) (first .memory) a .receiver)
       (run most (first .receiver) (first .memory) a .memory) b)
 
-  -- the receiver that a call works on: a packet has been counted, a slot that is freed is none
+  -- the receiver that a call works on: old slots have been freed and a packet counted; a slot that is freed is none
   abbrev pub atCall : Receiver → List ℕ → Call → Receiver
-  atCall r m (give p) = afterOffer r (decided most r (length m) p)
+  atCall r m (give time p) =
+      let q = agedOf most time r (length m) in
+      afterOffer q (decided most q (length m) p)
   atCall r m (free j) = r
 
   -- any call changes at most one slot and that slot's 1,024 bytes
   pub called-one-slot : (r : Receiver) (m : List ℕ) (c : Call)
       → OneSlot (atCall r m c) m (called most r m c .receiver) (called most r m c .memory)
-  called-one-slot r m (give p) = one-slot most r m p
+  called-one-slot r m (give time p) = one-slot most time r m p
   called-one-slot r m (free j) = freed-one-slot most r m j
 
   -- the set-up stays
   pub called-setup : (r : Receiver) (m : List ℕ) (c : Call) → called most r m c .receiver .setup ≡ r .setup
-  called-setup r m (give p) = step-setup most r m p
+  called-setup r m (give time p) = step-setup most time r m p
   called-setup r m (free j) = freed-one-slot most r m j .setup
 
   -- a right state stays right under every call
   pub called-right : (r : Receiver) (m : List ℕ) (c : Call) → rightState most r ≡ true
       → rightState most (called most r m c .receiver) ≡ true
-  called-right r m (give p) e = step-right most r m p e
+  called-right r m (give time p) e = step-right most time r m p e
   called-right r m (free i) e = freed-right most r i e
 
   pub run-right : (r : Receiver) (m : List ℕ) (calls : List Call) → rightState most r ≡ true
@@ -148,13 +151,15 @@ module _ (most : ℕ) where
   into-put Free i j b again = refl
   into-put (Gathering k q u h) i j b again = refl
 
-  pub step-stays : (r : Receiver) (m p : List ℕ) (i n : ℕ) → n ≤ 1024 → intoSlot i (stepOf most r m p .said) ≡ false
-      → message (stepOf most r m p .memory) i n ≡ message m i n
-  unfolding stepOf
-  step-stays r m p i n high e =
-      every-decision most r (length m) p
-      (λ d. intoSlot i (carriedOut (afterOffer r d) m p d .said) ≡ false
-      → message (carriedOut (afterOffer r d) m p d .memory) i n ≡ message m i n)
+  pub step-stays : (time : ℕ) (r : Receiver) (m p : List ℕ) (i n : ℕ) → n ≤ 1024
+      → intoSlot i (stepOf most time r m p .said) ≡ false
+      → message (stepOf most time r m p .memory) i n ≡ message m i n
+  unfolding stepOf offeredTo
+  step-stays time r m p i n high e =
+      let q = agedOf most time r (length m) in
+      every-decision most q (length m) p
+      (λ d. intoSlot i (carriedOut time (afterOffer q d) m p d .said) ≡ false
+      → message (carriedOut time (afterOffer q d) m p d .memory) i n ≡ message m i n)
       (record {
         refuses = λ k b s. refl;
         releases = λ x j k h b c s. refl;
@@ -169,11 +174,11 @@ module _ (most : ℕ) where
       → message (run most r m calls .memory) i n ≡ message m i n
   unfolding run
   run-stays r m [] i n high e = refl
-  run-stays r m (give p ∷ calls) i n high e =
-      let c = called most r m (give p) in
-      let h = both (not (intoSlot i (stepOf most r m p .said)))
+  run-stays r m (give time p ∷ calls) i n high e =
+      let c = called most r m (give time p) in
+      let h = both (not (intoSlot i (stepOf most time r m p .said)))
       (untouched i (run most (c .receiver) (c .memory) calls .answers)) e in
-      run-stays (c .receiver) (c .memory) calls i n high (h .1) ∙ step-stays r m p i n high (not-true _ (h .0))
+      run-stays (c .receiver) (c .memory) calls i n high (h .1) ∙ step-stays time r m p i n high (not-true _ (h .0))
   run-stays r m (free j ∷ calls) i n high e =
       let c = called most r m (free j) in
       run-stays (c .receiver) (c .memory) calls i n high e

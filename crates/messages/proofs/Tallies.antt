@@ -18,14 +18,17 @@ use Rattle.slots.specs.declared.state.Setup.{Setup}
 use Rattle.slots.specs.declared.state.SlotState.{SlotState}
 use Rattle.slots.specs.declared.state.SlotState.the-variants.{Free, Gathering}
 use Rattle.slots.specs.declared.state.Receiver.{Receiver}
+use Rattle.slots.specs.Slots.{freeSlot}
 use Rattle.slots.specs.State.{rightState}
 use Rattle.slots.specs.Tallies.{stopped, nextTally}
-use Rattle.slots.specs.Changes.{withState, withOffered, setUpOf, freedOf}
+use Rattle.slots.specs.Changes.{withSlot, withOffered, setUpOf, freedOf}
 use Rattle.slots.proofs.States.{right-of}
 use Rattle.slots.proofs.Changes.{set-up-right}
+use Rattle.decision.specs.Decision.{agedOf}
 use Rattle.decision.proofs.Decided.{freesNone, every-decision}
-use Rattle.receiver.specs.Step.{Said, refused, answerOf, afterPut, carriedOut, afterOffer, stepOf}
-use Rattle.receiver.proofs.Laws.{put-fields}
+use Rattle.receiver.specs.Step.{Said, refused, answerOf, afterPut, slotIn, carriedOut, afterOffer, offeredTo, stepOf}
+use Rattle.receiver.proofs.Offered.{put-fields}
+use Rattle.receiver.proofs.Laws.{aged-counts}
 use Rattle.messages.specs.Run.{Call, give, free, called, run}
 use Rattle.messages.specs.Tallies.{isOffered, isDone, howMany, SlotsTold, Shows}
 use Rattle.messages.proofs.Runs.{run-right}
@@ -73,40 +76,46 @@ on false r = refl
 
 module _ (most : ℕ) where
   -- one packet
-  pub step-offered : (r : Receiver) (m p : List ℕ)
-      → stepOf most r m p .receiver .tallies .offered
-      ≡ pick (isOffered (stepOf most r m p .said)) (nextTally (r .tallies .offered)) (r .tallies .offered)
-  unfolding stepOf
-  step-offered r m p =
-      let next = nextTally (r .tallies .offered) in
-      every-decision most r (length m) p
-      (λ d. carriedOut (afterOffer r d) m p d .receiver .tallies .offered
-      ≡ pick (isOffered (carriedOut (afterOffer r d) m p d .said)) next (r .tallies .offered))
+  pub step-offered : (time : ℕ) (r : Receiver) (m p : List ℕ)
+      → stepOf most time r m p .receiver .tallies .offered
+      ≡ pick (isOffered (stepOf most time r m p .said)) (nextTally (r .tallies .offered)) (r .tallies .offered)
+  unfolding stepOf offeredTo
+  step-offered time r m p =
+      let q = agedOf most time r (length m) in
+      let next = nextTally (q .tallies .offered) in
+      every-decision most q (length m) p
+      (λ d. carriedOut time (afterOffer q d) m p d .receiver .tallies .offered
+      ≡ pick (isOffered (carriedOut time (afterOffer q d) m p d .said)) next (q .tallies .offered))
       (record {
         refuses = λ n b.
-            on (ltb 2 n) r ∙ ap (λ (t : Bool). pick t next (r .tallies .offered)) (sym (counts-from-3 n b));
-        releases = λ x i n h b c. ap (λ (t : Bool). pick t next (r .tallies .offered)) (sym (counts-freed n b));
+            on (ltb 2 n) q ∙ ap (λ (t : Bool). pick t next (q .tallies .offered)) (sym (counts-from-3 n b));
+        releases = λ x i n h b c. ap (λ (t : Bool). pick t next (q .tallies .offered)) (sym (counts-freed n b));
         puts = λ x y i at again then f.
-            put-fields then (withState (withOffered r) i then) .2
-            ∙ ap (λ (t : Bool). pick t next (r .tallies .offered))
+            put-fields then (withSlot (withOffered q) i (slotIn then time)) .2
+            ∙ ap (λ (t : Bool). pick t next (q .tallies .offered))
             (sym (puts-offered then i (at + length (bodyOf p)) again));
       })
+      ∙ ap (λ (n : ℕ). pick (isOffered (stepOf most time r m p .said)) (nextTally n) n)
+      (aged-counts most time r (length m) .0)
 
-  pub step-done : (r : Receiver) (m p : List ℕ)
-      → stepOf most r m p .receiver .tallies .done
-      ≡ pick (isDone (stepOf most r m p .said)) (nextTally (r .tallies .done)) (r .tallies .done)
-  unfolding stepOf
-  step-done r m p =
-      every-decision most r (length m) p
-      (λ d. carriedOut (afterOffer r d) m p d .receiver .tallies .done
-      ≡ pick (isDone (carriedOut (afterOffer r d) m p d .said)) (nextTally (r .tallies .done)) (r .tallies .done))
+  pub step-done : (time : ℕ) (r : Receiver) (m p : List ℕ)
+      → stepOf most time r m p .receiver .tallies .done
+      ≡ pick (isDone (stepOf most time r m p .said)) (nextTally (r .tallies .done)) (r .tallies .done)
+  unfolding stepOf offeredTo
+  step-done time r m p =
+      let q = agedOf most time r (length m) in
+      every-decision most q (length m) p
+      (λ d. carriedOut time (afterOffer q d) m p d .receiver .tallies .done
+      ≡ pick (isDone (carriedOut time (afterOffer q d) m p d .said)) (nextTally (q .tallies .done)) (q .tallies .done))
       (record {
-        refuses = λ n b. pick-elim (λ (q : Receiver). q .tallies .done ≡ r .tallies .done) (ltb 2 n) (withOffered r) r
+        refuses = λ n b. pick-elim (λ (x : Receiver). x .tallies .done ≡ q .tallies .done) (ltb 2 n) (withOffered q) q
             (λ e. refl) (λ e. refl);
         releases = λ x i n h b c. refl;
         puts = λ x y i at again then f. puts-done then i (at + length (bodyOf p)) again
-            (withState (withOffered r) i then);
+            (withSlot (withOffered q) i (slotIn then time));
       })
+      ∙ ap (λ (n : ℕ). pick (isDone (stepOf most time r m p .said)) (nextTally n) n)
+      (aged-counts most time r (length m) .1)
 
   -- one more or none, and then the rest
   joins : (b : Bool) (n k : ℕ) → stopped (pick b (nextTally n) n + k) ≡ stopped (n + (pick b 1 0 + k))
@@ -115,8 +124,9 @@ module _ (most : ℕ) where
 
   -- a tally that each packet counts on by its answer, and that a slot freed leaves
   module _ (tally : Receiver → ℕ) (f : Said → Bool)
-      (by-packet : (r : Receiver) (m p : List ℕ)
-      → tally (stepOf most r m p .receiver) ≡ pick (f (stepOf most r m p .said)) (nextTally (tally r)) (tally r))
+      (by-packet : (time : ℕ) (r : Receiver) (m p : List ℕ)
+      → tally (stepOf most time r m p .receiver)
+      ≡ pick (f (stepOf most time r m p .said)) (nextTally (tally r)) (tally r))
       (by-freeing : (r : Receiver) (i : ℕ) → tally (freedOf most r i) ≡ tally r) where
     within-bits : (b : Bool) (n : ℕ) → n ≤ 4294967295 → pick b (nextTally n) n ≤ 4294967295
     within-bits true n h = omega arith
@@ -126,10 +136,10 @@ module _ (most : ℕ) where
         → tally (run most r m calls .receiver) ≡ stopped (tally r + howMany f (run most r m calls .answers))
     unfolding run howMany
     run-counts r m [] h = omega arith
-    run-counts r m (give p ∷ calls) h =
-        let c = called most r m (give p) in
-        let b = f (stepOf most r m p .said) in
-        let one = by-packet r m p in
+    run-counts r m (give time p ∷ calls) h =
+        let c = called most r m (give time p) in
+        let b = f (stepOf most time r m p .said) in
+        let one = by-packet time r m p in
         run-counts (c .receiver) (c .memory) calls (rw one (within-bits b (tally r) h))
         ∙ ap (λ (n : ℕ). stopped (n + howMany f (run most (c .receiver) (c .memory) calls .answers))) one
         ∙ joins b (tally r) (howMany f (run most (c .receiver) (c .memory) calls .answers))
@@ -146,7 +156,7 @@ module _ (most : ℕ) where
   freed-counts r i =
       pick-elim
       (λ (q : Receiver). (q .tallies .offered ≡ r .tallies .offered) × (q .tallies .done ≡ r .tallies .done))
-      (rightState most r && ltb i 4) (withState r i Free) r (λ e. (refl, refl)) (λ e. (refl, refl))
+      (rightState most r && ltb i 4) (withSlot r i freeSlot) r (λ e. (refl, refl)) (λ e. (refl, refl))
 
   -- the last two, from any state that 32 bits hold
   pub run-offered : (r : Receiver) (m : List ℕ) (calls : List Call) → r .tallies .offered ≤ 4294967295

@@ -8,9 +8,9 @@ use Rattle.slots.specs.declared.state.Receiver.{Receiver}
 use Rattle.slots.specs.Changes.{freeRefusal, freedOf}
 use Rattle.receiver.specs.Step.{Said, refused, held, done, Left, stepOf}
 
--- a call: a packet given to the message rules, or a slot freed
+-- a call: a packet given to the message rules at a millisecond count, or a slot freed
 pub data Call : Type 0 where
-  give : List ℕ → Call
+  give : (time : ℕ) → List ℕ → Call
   free : ℕ → Call
 
 -- what a call answers: the message rules' answer, or the number of the freeing call (0 where good)
@@ -49,7 +49,7 @@ abbrev pub ofFreed : (number : ℕ) → Receiver → List ℕ → Ran
 ofFreed number r m = record { answers = freed number ∷ []; messages = []; receiver = r; memory = m }
 
 abbrev pub called : ℕ → Receiver → List ℕ → Call → Ran
-called most r m (give p) = ofStep (stepOf most r m p)
+called most r m (give time p) = ofStep (stepOf most time r m p)
 called most r m (free slot) = ofFreed (freeRefusal most r slot) (freedOf most r slot) m
 
 -- what came first, then what came after it
@@ -68,6 +68,11 @@ run most r m [] = record { answers = []; messages = []; receiver = r; memory = m
 run most r m (c ∷ calls) =
     joined (called most r m c) (run most (called most r m c .receiver) (called most r m c .memory) calls)
 
--- a list of packets, given one after the other
-abbrev pub runPackets : ℕ → Receiver → List ℕ → List (List ℕ) → Ran
-runPackets most r m packets = run most r m (map give packets)
+-- things that all come at one count
+abbrev pub atOnce : {A : Type 0} → (time : ℕ) → List A → List (ℕ × A)
+atOnce time [] = []
+atOnce time (x ∷ more) = (time, x) ∷ atOnce time more
+
+-- a list of packets, each with its count, given one after the other
+abbrev pub runPackets : ℕ → Receiver → List ℕ → List (ℕ × List ℕ) → Ran
+runPackets most r m packets = run most r m (map (λ (p : ℕ × List ℕ). give (p .0) (p .1)) packets)
