@@ -47,17 +47,17 @@ after-injective o q m n e =
 -- Each contract says what the demands say of an arrival on its path ..
 pub from-smbus-arrives : (κs : Lfts 2) (a r e : _) → smbus.Post κs a r e
     → afterArrival r (e .1 .1 .1 .0 .now)
-    ≡ arrivedOf 64 (a .1 .1 .0) (a .1 .1 .1 .0 .now) (brings 64 (bySmbus (a .0 .now) (a .1 .0)))
+    ≡ arrivedOf 64 (a .1 .1 .1 .1 .0) (a .1 .1 .0) (a .1 .1 .1 .0 .now) (brings 64 (bySmbus (a .0 .now) (a .1 .0)))
 from-smbus-arrives κs a r e p = p
 
 pub from-pcc-arrives : (κs : Lfts 2) (a r e : _) → pcc.Post κs a r e
     → afterArrival r (e .1 .1 .1 .0 .now)
-    ≡ arrivedOf 64 (a .1 .1 .0) (a .1 .1 .1 .0 .now) (brings 64 (byPcc (a .0 .now) (a .1 .0)))
+    ≡ arrivedOf 64 (a .1 .1 .1 .1 .0) (a .1 .1 .0) (a .1 .1 .1 .0 .now) (brings 64 (byPcc (a .0 .now) (a .1 .0)))
 from-pcc-arrives κs a r e p = p
 
 pub from-ring-arrives : (κs : Lfts 3) (a r e : _) → ring.Post κs a r e
     → (afterArrival r (e .1 .1 .1 .1 .1 .1 .0 .now)
-    ≡ arrivedOf 64 (a .1 .1 .1 .1 .1 .0) (a .1 .1 .1 .1 .1 .1 .0 .now)
+    ≡ arrivedOf 64 (a .1 .1 .1 .1 .1 .1 .1 .0) (a .1 .1 .1 .1 .1 .0) (a .1 .1 .1 .1 .1 .1 .0 .now)
     (brings 64
     (byRing (a .0 .now) (a .1 .0) (a .1 .1 .0) (a .1 .1 .1 .0 .read) (a .1 .1 .1 .0 .write) (a .1 .1 .1 .1 .0 .now))))
     × (e .1 .1 .1 .1 .0 .now

@@ -33,7 +33,8 @@ afterArrival o m = record { told = tells (o .arrived); receiver = o .receiver; m
 abbrev pub withBeside : Beside → rules.Left → AfterArrival
 withBeside beside l = record { told = given beside (l .said); receiver = l .receiver; memory = l .memory }
 
--- "a good arrival's packet goes to the message rules"; "A carrier's refusal never reaches the slots."
-abbrev pub arrivedOf : (most : ℕ) (r : Receiver) (m : List ℕ) → Brought → AfterArrival
-arrivedOf most r m (packet p beside) = withBeside beside (rules.stepOf most r m p)
-arrivedOf most r m (none why) = record { told = nothing why; receiver = r; memory = m }
+-- "a good arrival's packet goes to the message rules", with the count; "A carrier's refusal never reaches the slots.",
+-- and "frees nothing"
+abbrev pub arrivedOf : (most time : ℕ) (r : Receiver) (m : List ℕ) → Brought → AfterArrival
+arrivedOf most time r m (packet p beside) = withBeside beside (rules.stepOf most time r m p)
+arrivedOf most time r m (none why) = record { told = nothing why; receiver = r; memory = m }

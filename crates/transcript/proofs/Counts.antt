@@ -50,7 +50,7 @@ run-arrivals s m (f ∷ frames) h =
 -- "Packets counts arrivals in which a packet was found": of one frame
 found : (s : State) (m p : List ℕ) (beside : Beside) (why : carrier.Without) (good : Bool)
     → s .packets < 18446744073709551615
-    → withPacket (arrivedOf 64 (s .receiver) m (pick good (carrier.packet p beside) (carrier.none why)) .told)
+    → withPacket (arrivedOf 64 0 (s .receiver) m (pick good (carrier.packet p beside) (carrier.none why)) .told)
     (s .packets) ≡ s .packets + pick good 1 0
 found s m p beside why true h = more-is (s .packets) h
 found s m p beside why false h = omega arith

@@ -13,11 +13,11 @@ use Rattle.slots.specs.declared.state.SlotState.the-variants.{Free}
 use Rattle.slots.specs.Slots as slots
 use Rattle.slots.specs.State as state
 use Rattle.slots.specs.Tallies.{sumOf}
-use Rattle.slots.specs.Changes.{fresh}
+use Rattle.slots.specs.Ages.{expiredTo}
 use Rattle.slots.proofs.Literal.{tallied}
 use Rattle.decision.specs.Rules as rules
-use Rattle.decision.specs.Decision.{decided}
-use Rattle.receiver.specs.Step.{stepOf}
+use Rattle.decision.specs.Decision.{agedOf, decided}
+use Rattle.receiver.specs.Step.{offeredTo, stepOf}
 use Rattle.rack.specs.declared.answer.Beside.the-variants.{Source}
 use Rattle.rack.specs.Arrivals.{packet, none, refused, smbusBrings}
 use Rattle.records.specs.declared.line.Line.the-variants.{Done, Refused}
@@ -25,7 +25,7 @@ use Rattle.records.specs.Decimal.{digits, decimal}
 use Rattle.records.specs.Line.{named, pair, lineBytes, lastLine}
 use Rattle.records.proofs.Samples.{records}
 use Rattle.transcript.specs.declared.state.State.{State}
-use Rattle.transcript.specs.State.{start, oneMore}
+use Rattle.transcript.specs.State.{start, everyTime, oneMore}
 use Rattle.transcript.specs.Frame.{Ran, afterFrame}
 use Rattle.transcript.specs.Taking.{run}
 use Rattle.transcript.specs.Last.{transcriptOf}
@@ -41,12 +41,20 @@ short : smbusBrings 64 (0x00 ∷ []) 0x20 ≡ none (refused 3)
 unfolding smbusBrings smbus.refusalOf
 short = refl
 
-done : decided 64 (fresh (record { own = record { 0 = 9 } })) 4096 (0x01 ∷ 0x09 ∷ 0x0A ∷ 0xC8 ∷ 0x00 ∷ [])
+done : decided 64 (start .receiver) 4096 (0x01 ∷ 0x09 ∷ 0x0A ∷ 0xC8 ∷ 0x00 ∷ [])
     ≡ rules.put 0 0 false Free
 unfolding decided rules.ruled
     rules.onStart rules.after key.keyOf key.headerOf key.sameKey slots.firstOf slots.slotOf slots.lowestFree
     state.rightState state.rightSlot state.clash sumOf
 done = refl
+
+aged : agedOf 64 0 (start .receiver) 4096 ≡ start .receiver
+unfolding state.rightState state.rightSlot state.clash sumOf expiredTo
+aged = refl
+
+-- "The bench program gives 0 as every time."
+pub at-0 : everyTime ≡ 0
+at-0 = refl
 
 -- what the two frames leave, in any memory of the right size
 module _ (m : List ℕ) (sized : length m ≡ 4096) where
@@ -59,8 +67,8 @@ module _ (m : List ℕ) (sized : length m ≡ 4096) where
       }
 
   one : afterFrame start m (0x40 ∷ 0x0F ∷ 0x06 ∷ 0x23 ∷ 0x01 ∷ 0x09 ∷ 0x0A ∷ 0xC8 ∷ 0x00 ∷ 0x71 ∷ []) ≡ first
-  unfolding afterFrame stepOf oneMore sumOf first
-  one = rw (found, sized, done)
+  unfolding afterFrame stepOf offeredTo oneMore sumOf first
+  one = rw (found, sized, aged, done)
 
   two : (s : State) (n : List ℕ)
       → afterFrame s n (0x00 ∷ []) ≡ record {

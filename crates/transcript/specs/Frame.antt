@@ -6,7 +6,7 @@ use Rattle.rack.specs.Arrivals.{smbusBrings}
 use Rattle.rack.specs.Answers.{AfterArrival, arrivedOf}
 use Rattle.records.specs.Line.{lineBytes}
 use Rattle.transcript.specs.declared.state.State.{State}
-use Rattle.transcript.specs.State.{ownAddress, oneMore, withPacket}
+use Rattle.transcript.specs.State.{ownAddress, everyTime, oneMore, withPacket}
 use Rattle.transcript.specs.Line.{lineOf}
 
 -- the state and the memory after one frame or several, and the bytes of their lines
@@ -31,4 +31,4 @@ counted s left =
 
 -- one frame's arrival at our own address
 unfoldable pub afterFrame : State → (memory frame : List ℕ) → Ran
-afterFrame s m frame = counted s (arrivedOf 64 (s .receiver) m (smbusBrings 64 frame ownAddress))
+afterFrame s m frame = counted s (arrivedOf 64 everyTime (s .receiver) m (smbusBrings 64 frame ownAddress))

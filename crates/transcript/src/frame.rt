@@ -29,7 +29,7 @@ pub fn frame_line(
         (afterFrame before (now (memory .entry)) (now (frame .entry)) .text) ⌝ }
 {
     let receiver = before.receiver;
-    let received = rack::from_smbus(frame, state::ADDRESS, receiver, memory);
+    let received = rack::from_smbus(frame, state::ADDRESS, receiver, memory, state::TIME);
     let arrived = received.arrived;
     let after = received.receiver;
     let arrivals = state::one_more(before.arrivals);

@@ -11,6 +11,11 @@ pub const ADDRESS: u8 = 0x20;
 
 pub const OWN: Eid = Eid(9);
 
+// "The bench program gives 0 as every time", so any limit will do.
+pub const TIME: u32 = 0;
+
+pub const LIMIT: u32 = 60000;
+
 pub struct State {
     pub receiver: Receiver,
     pub arrivals: u64,
@@ -20,7 +25,7 @@ pub struct State {
 pub fn set_up() -> State
     ensures { λ r. ⌜ r ≡ start ⌝ }
 {
-    let changed = slots::set_up(OWN);
+    let changed = slots::set_up(OWN, LIMIT);
     let receiver = changed.receiver;
     State {
         receiver: receiver,
