@@ -11,7 +11,7 @@ use receiver::Answer;
 pub fn tell_after(size: usize, script: &[u8], last: usize, byte: u8) {
     let mut memory = [0u8; 4096];
     let before = after(size, script, &mut memory);
-    let given = give(before, &mut memory, last, byte);
+    let given = give(before, &mut memory, last, byte, 0);
     let answer = given.answer;
     tell_answer(answer);
 }

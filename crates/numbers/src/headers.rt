@@ -29,7 +29,7 @@ fn tell_if(flag: bool, words: &[u8]) {
 
 // A receiver set up with this EID of its own.
 pub fn tell_own(eid: u8) {
-    let changed = slots::set_up(Eid(eid));
+    let changed = slots::set_up(Eid(eid), 1000);
     let outcome = changed.outcome;
     tell_outcome(outcome);
 }
@@ -39,7 +39,7 @@ pub fn tell_from(eid: u8) {
     let mut packet = ORDER;
     packet[2] = eid;
     let mut memory = [0u8; 4096];
-    let given = receiver::give(fresh(), &mut memory, &packet);
+    let given = receiver::give(fresh(), &mut memory, &packet, 0);
     let answer = given.answer;
     tell_answer(answer);
 }

@@ -1,4 +1,5 @@
 // Document 01's numbers, run on the proved calls and told in words.
+mod ages;
 mod answers;
 mod frames;
 mod headers;
@@ -13,7 +14,7 @@ mod states;
 mod text;
 
 // What was tried, line by line, and a mark for what came of it: a byte of 0x80 or more.
-const PAGE: [u8; 2028] = *b"SMBus
+const PAGE: [u8; 2572] = *b"SMBus
 smbus frame of 9 bytes: \x80
 smbus frame of 10 bytes: \x81
 smbus frame of 73 bytes: \x82
@@ -78,6 +79,20 @@ panel after a packet without a start: \xED
 panel after one of the second out of sequence: \xEE
 panel after slot 0 is freed: \xEF
 panel after a message of one packet: \xFD
+
+Old half-messages at EID 9, by a count of milliseconds
+limit 0: \x94
+limit 1: \x95
+limit 60000: \x96
+limit 60001: \x97
+limit 1000, start at 0, next packet at 1000: \xB8
+limit 1000, start at 0, next packet at 1001: \xB9
+limit 1000, start at 0, the same start at 1000: \xBA
+limit 1000, start at 0, the same start at 1001: \xBB
+limit 1000, start at 4294967290, next packet at 994: \xBC
+limit 1000, start at 4294967290, next packet at 995: \xBD
+limit 1000, start at 1000, clock stepped back, next packet at 999: \xBE
+limit 1000, start at 5, a whole turn idle, next packet at 5: \xBF
 
 Messages sent from EID 10 to EID 9, tag owner, tag 5, first sequence 3
 message of 0 bytes: \xD0
@@ -168,6 +183,24 @@ fn tell_trial(mark: u8) {
         0xEE => panel::tell_after(6),
         0xEF => panel::tell_after(7),
         0xFD => panel::tell_after(8),
+        _ => tell_age(mark),
+    }
+}
+
+fn tell_age(mark: u8) {
+    match mark {
+        0x94 => ages::tell_limit(0),
+        0x95 => ages::tell_limit(1),
+        0x96 => ages::tell_limit(60000),
+        0x97 => ages::tell_limit(60001),
+        0xB8 => ages::tell_behind(0, ages::NEXT, 1000),
+        0xB9 => ages::tell_behind(0, ages::NEXT, 1001),
+        0xBA => ages::tell_behind(0, ages::START, 1000),
+        0xBB => ages::tell_behind(0, ages::START, 1001),
+        0xBC => ages::tell_behind(4294967290, ages::NEXT, 994),
+        0xBD => ages::tell_behind(4294967290, ages::NEXT, 995),
+        0xBE => ages::tell_behind(1000, ages::NEXT, 999),
+        0xBF => ages::tell_behind(5, ages::NEXT, 5),
         _ => tell_sending(mark),
     }
 }

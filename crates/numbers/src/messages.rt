@@ -18,9 +18,9 @@ pub fn tell_dropped() {
     let bodies = BODIES;
     let mut memory = [0u8; 4096];
     let full = after(68, &bodies, &mut memory);
-    let over = give(full, &mut memory, 5, 0x48);
+    let over = give(full, &mut memory, 5, 0x48, 0);
     let left = over.receiver;
-    let given = give(left, &mut memory, 5, 0x58);
+    let given = give(left, &mut memory, 5, 0x58, 0);
     let answer = given.answer;
     tell_answer(answer);
 }

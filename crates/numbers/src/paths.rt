@@ -19,7 +19,7 @@ pub fn tell_smbus() {
     let mut frame = [0u8; 10];
     smbus::write(&mut frame, &packet, 32, 17);
     let mut memory = [0u8; 4096];
-    let received = rack::from_smbus(&frame, 32, fresh(), &mut memory);
+    let received = rack::from_smbus(&frame, 32, fresh(), &mut memory, 0);
     let arrived = received.arrived;
     tell_arrived(arrived);
 }
@@ -29,7 +29,7 @@ pub fn tell_pcc() {
     let mut region = [0u8; 84];
     pcc::write(&mut region, 3, true, &packet);
     let mut memory = [0u8; 4096];
-    let received = rack::from_pcc(&region, 3, fresh(), &mut memory);
+    let received = rack::from_pcc(&region, 3, fresh(), &mut memory, 0);
     let arrived = received.arrived;
     tell_arrived(arrived);
 }
@@ -50,6 +50,7 @@ pub fn tell_ring() {
         &mut space,
         fresh(),
         &mut memory,
+        0,
     );
     let arrived = received.arrived;
     tell_arrived(arrived);

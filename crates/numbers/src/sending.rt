@@ -85,7 +85,7 @@ fn send(before: Receiver, memory: &mut Memory, k: usize) -> Receiver {
             before
         }
         Written::Frame(size) => {
-            let received = rack::from_smbus(octets::part(&frame, 0, size), 32, before, memory);
+            let received = rack::from_smbus(octets::part(&frame, 0, size), 32, before, memory, 0);
             let arrived = received.arrived;
             tell_arrived(arrived);
             received.receiver
