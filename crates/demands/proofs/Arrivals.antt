@@ -39,6 +39,7 @@ use Rattle.ring.proofs.RoundTrip as ring-round
 use Rattle.slots.specs.declared.state.Receiver.{Receiver}
 use Rattle.slots.specs.State.{rightState}
 use Rattle.slots.specs.Changes.{withOffered}
+use Rattle.slots.specs.Ages.{expired}
 use Rattle.receiver.specs.Effects.{Unchanged, SlotFreed}
 use Rattle.receiver.specs.Step.{refused, stepOf}
 use Rattle.receiver.proofs.Laws.{step-right, refused-uncounted, refused-counted, refused-freed}
@@ -48,40 +49,46 @@ use Rattle.rack.specs.Arrivals.{Arrival, Brought, Without, packet, none, brings
 use Rattle.rack.specs.Answers.{given, nothing, arrivedOf}
 use Rattle.rack.proofs.Carriers.{ring-brings, ring-front}
 
-module _ (most : ℕ) (r : Receiver) (m : List ℕ) where
+module _ (most time : ℕ) (r : Receiver) (m : List ℕ) where
   pub none-leaves-all : (a : Arrival) (why : Without) → brings most a ≡ none why
-      → arrivedOf most r m (brings most a) ≡ record { told = nothing why; receiver = r; memory = m }
-  none-leaves-all a why e = ap (arrivedOf most r m) e
+      → arrivedOf most time r m (brings most a) ≡ record { told = nothing why; receiver = r; memory = m }
+  none-leaves-all a why e = ap (arrivedOf most time r m) e
 
   -- what the rules refuse was a packet
   a-packet : (beside : Beside) (n : ℕ) (why : Without) → nothing why ≡ given beside (refused n) → ⊥
   a-packet beside n why e = let z : _≡_ {A = ℕ} 0 1 = cc in omega arith
 
-  pub rules-uncounted : (beside : Beside) (n : ℕ) (c : Brought) → arrivedOf most r m c .told ≡ given beside (refused n)
-      → n ≤ 2 → Unchanged r m (arrivedOf most r m c .receiver) (arrivedOf most r m c .memory)
-  rules-uncounted beside n (packet p k) e low = refused-uncounted most r m p n (cc) low
+  pub rules-uncounted : (beside : Beside) (n : ℕ) (c : Brought)
+      → arrivedOf most time r m c .told ≡ given beside (refused n)
+      → n ≤ 2 → Unchanged r m (arrivedOf most time r m c .receiver) (arrivedOf most time r m c .memory)
+  rules-uncounted beside n (packet p k) e low = refused-uncounted most time r m p n (cc) low
   rules-uncounted beside n (none why) e low = absurd (a-packet beside n why e)
 
-  pub rules-counted : (beside : Beside) (n : ℕ) (c : Brought) → arrivedOf most r m c .told ≡ given beside (refused n)
+  pub rules-counted : (beside : Beside) (n : ℕ) (c : Brought)
+      → arrivedOf most time r m c .told ≡ given beside (refused n)
       → 3 ≤ n → (n ≡ 20 → ⊥) → (n ≡ 21 → ⊥) → (n ≡ 22 → ⊥)
-      → Unchanged (withOffered r) m (arrivedOf most r m c .receiver) (arrivedOf most r m c .memory)
-  rules-counted beside n (packet p k) e low n20 n21 n22 = refused-counted most r m p n (cc) low n20 n21 n22
+      → Unchanged (withOffered (expired time r)) m (arrivedOf most time r m c .receiver)
+      (arrivedOf most time r m c .memory)
+  rules-counted beside n (packet p k) e low n20 n21 n22 = refused-counted most time r m p n (cc) low n20 n21 n22
   rules-counted beside n (none why) e low n20 n21 n22 = absurd (a-packet beside n why e)
 
   -- a right state stays right, whatever the carrier made of the arrival
-  pub arrived-right : (c : Brought) → rightState most r ≡ true → rightState most (arrivedOf most r m c .receiver) ≡ true
-  arrived-right (packet p beside) e = step-right most r m p e
+  pub arrived-right : (c : Brought) → rightState most r ≡ true
+      → rightState most (arrivedOf most time r m c .receiver) ≡ true
+  arrived-right (packet p beside) e = step-right most time r m p e
   arrived-right (none why) e = e
 
   pub rules-freed : (p : List ℕ) (beside : Beside) (n : ℕ) (c : Brought) → c ≡ packet p beside
-      → arrivedOf most r m c .told ≡ given beside (refused n)
-      → 20 ≤ n → SlotFreed (keyOf p) (withOffered r) m (arrivedOf most r m c .receiver) (arrivedOf most r m c .memory)
+      → arrivedOf most time r m c .told ≡ given beside (refused n)
+      → 20 ≤ n → SlotFreed (keyOf p) (withOffered (expired time r)) m (arrivedOf most time r m c .receiver)
+      (arrivedOf most time r m c .memory)
   rules-freed p beside n c is e twenty =
       subst
-      (λ (d : Brought). arrivedOf most r m d .told ≡ given beside (refused n)
-      → SlotFreed (keyOf p) (withOffered r) m (arrivedOf most r m d .receiver) (arrivedOf most r m d .memory))
+      (λ (d : Brought). arrivedOf most time r m d .told ≡ given beside (refused n)
+      → SlotFreed (keyOf p) (withOffered (expired time r)) m (arrivedOf most time r m d .receiver)
+      (arrivedOf most time r m d .memory))
       (sym is)
-      (λ (t : given beside (stepOf most r m p .said) ≡ given beside (refused n)). refused-freed most r m p n
+      (λ (t : given beside (stepOf most time r m p .said) ≡ given beside (refused n)). refused-freed most time r m p n
       (cc) twenty)
       e
 

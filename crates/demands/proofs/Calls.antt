@@ -249,13 +249,13 @@ controller-of-number-is κs a r e p = p
 pub changed-flags-is : (κs : Lfts 0) (a r e : _) → changed-flags.Post κs a r e → r ≡ changedFlags (a .1 .0) (a .0)
 changed-flags-is κs a r e p = p
 
--- the interface's state; an own EID
+-- the interface's state; an own EID and a limit
 pub transient-is : (κs : Lfts 0) (a r e : _) → transient.Post κs a r e → r ≡ isTransient (a .0)
 transient-is κs a r e p = p
 
 pub set-up-is : (κs : Lfts 0) (a r e : _) → set-up.Post κs a r e
-    → (outcomeNumber (r .outcome) ≡ setUpRefusal (record { own = a .0 }))
-    × (r .receiver ≡ setUpOf (record { own = a .0 }))
+    → (outcomeNumber (r .outcome) ≡ setUpRefusal (record { own = a .0; limit = a .1 .0 }))
+    × (r .receiver ≡ setUpOf (record { own = a .0; limit = a .1 .0 }))
 set-up-is κs a r e p = p
 
 -- a receiver's four tallies, as they are stored

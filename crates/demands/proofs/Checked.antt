@@ -11,9 +11,10 @@ use Rattle.ring.specs.Numbers.{filledOf, roomOf}
 use Rattle.slots.specs.Slots.{firstOf, slotOf, lowestFree}
 use Rattle.slots.specs.State.{multiple, rightNumbers, rightSlot, clash, rightState}
 use Rattle.slots.specs.Tallies.{sumOf}
+use Rattle.slots.specs.Ages.{expiredTo}
 use Rattle.decision.specs.Rules.{after, onStart, gathered, onFollow, ruled}
 use Rattle.decision.specs.Decision.{decided}
-use Rattle.receiver.specs.Step.{done, stepOf}
+use Rattle.receiver.specs.Step.{done, offeredTo, stepOf}
 use Rattle.messages.specs.Run.{run}
 use Rattle.rack.specs.declared.answer.Beside.the-variants.{Source}
 use Rattle.rack.specs.Arrivals.{Brought, bySmbus, packet, brings}
@@ -24,8 +25,8 @@ use Rattle.demands.proofs.Numbers.{card, empty, Numbers}
 use Rattle.demands.proofs.Arrivals.{smbus-found}
 
 -- the good frame's packet, given to the message rules
-pub literal-done : stepOf 64 card empty literalPacket .said ≡ done 0 1 false
-unfolding stepOf decided ruled onStart onFollow gathered
+pub literal-done : stepOf 64 0 card empty literalPacket .said ≡ done 0 1 false
+unfolding stepOf offeredTo expiredTo decided ruled onStart onFollow gathered
     after slotOf lowestFree firstOf headerOf keyOf sameKey rightState rightSlot rightNumbers multiple clash laid
     sumOf
 literal-done = refl
@@ -33,12 +34,12 @@ literal-done = refl
 pub literal-brought : brings 64 (bySmbus literalFrame 32) ≡ packet literalPacket (Source 17)
 literal-brought = smbus-found 64 literalFrame 32 literalPacket 17 literal-good literal-packet literal-source
 
-pub literal-arrival : arrival 64 card empty (bySmbus literalFrame 32) .told ≡ given (Source 17) (done 0 1 false)
+pub literal-arrival : arrival 64 0 card empty (bySmbus literalFrame 32) .told ≡ given (Source 17) (done 0 1 false)
 literal-arrival =
-    ap (λ (c : Brought). arrivedOf 64 card empty c .told) literal-brought ∙ ap (given (Source 17)) literal-done
+    ap (λ (c : Brought). arrivedOf 64 0 card empty c .told) literal-brought ∙ ap (given (Source 17)) literal-done
 
 pub numbers : Numbers
-unfolding polyStep eightSteps byteStep pecFrom pecOf filledOf roomOf stateOf run stepOf decided
+unfolding polyStep eightSteps byteStep pecFrom pecOf filledOf roomOf stateOf run stepOf offeredTo expiredTo decided
     ruled onStart onFollow gathered after slotOf lowestFree firstOf headerOf
     keyOf sameKey rightState rightSlot rightNumbers multiple clash laid sumOf
 numbers =

@@ -53,6 +53,7 @@ use Rattle.slots.specs.declared.state.Receiver.{Receiver}
 use Rattle.slots.specs.declared.state.Setup.{Setup}
 use Rattle.slots.specs.State.{rightState}
 use Rattle.slots.specs.Changes.{fresh, withOffered, freeRefusal, freedOf}
+use Rattle.slots.specs.Ages.{expired}
 use Rattle.slots.proofs.Changes.{freed-refused}
 use Rattle.receiver.specs.Effects.{Unchanged, SlotFreed}
 use Rattle.receiver.specs.Step.{refused, stepOf}
@@ -78,43 +79,46 @@ use Rattle.demands.proofs.Presented.{presented}
 -- definition in its check order.
 
 -- "Lent memory is then unchanged, and so is the receiver": where the carrier refuses, skips or finds nothing
-pub without-a-packet : (r : Receiver) (m : List ℕ) (a : Arrival) (why : Without) → brings 64 a ≡ none why
-    → arrival 64 r m a ≡ record { told = nothing why; receiver = r; memory = m }
-without-a-packet r m a why e = good.none-leaves-all 64 r m a why e
+pub without-a-packet : (time : ℕ) (r : Receiver) (m : List ℕ) (a : Arrival) (why : Without) → brings 64 a ≡ none why
+    → arrival 64 time r m a ≡ record { told = nothing why; receiver = r; memory = m }
+without-a-packet time r m a why e = good.none-leaves-all 64 time r m a why e
 
--- and where the message rules refuse with 1 or 2, which "count nothing" (document 02, #102)
-pub refused-uncounted : (r : Receiver) (m : List ℕ) (a : Arrival) (beside : Beside) (n : ℕ)
-    → arrival 64 r m a .told ≡ given beside (refused n) → n ≤ 2
-    → Unchanged r m (arrival 64 r m a .receiver) (arrival 64 r m a .memory)
-refused-uncounted r m a beside n = good.rules-uncounted 64 r m beside n (brings 64 a)
+-- and where the message rules refuse with 1 or 2, which "count nothing" (document 02, #102) and free nothing
+pub refused-uncounted : (time : ℕ) (r : Receiver) (m : List ℕ) (a : Arrival) (beside : Beside) (n : ℕ)
+    → arrival 64 time r m a .told ≡ given beside (refused n) → n ≤ 2
+    → Unchanged r m (arrival 64 time r m a .receiver) (arrival 64 time r m a .memory)
+refused-uncounted time r m a beside n = good.rules-uncounted 64 time r m beside n (brings 64 a)
 
 -- "A packet refused with 3 or 15 to 22 counts as offered, and that tally is then the one further change to the
--- receiver" (document 02, #102): with 3 and 15 to 19, the one change,
-pub refused-by-the-rules : (r : Receiver) (m : List ℕ) (a : Arrival) (beside : Beside) (n : ℕ)
-    → arrival 64 r m a .told ≡ given beside (refused n) → 3 ≤ n → (n ≡ 20 → ⊥) → (n ≡ 21 → ⊥) → (n ≡ 22 → ⊥)
-    → Unchanged (withOffered r) m (arrival 64 r m a .receiver) (arrival 64 r m a .memory)
-refused-by-the-rules r m a beside n = good.rules-counted 64 r m beside n (brings 64 a)
+-- receiver" (document 02, #102): with 3 and 15 to 19, the one change, but that "packet refusals may also leave expired
+-- slots free" (#106). What those are, and that the others stay, is said in Ages.antt.
+pub refused-by-the-rules : (time : ℕ) (r : Receiver) (m : List ℕ) (a : Arrival) (beside : Beside) (n : ℕ)
+    → arrival 64 time r m a .told ≡ given beside (refused n) → 3 ≤ n → (n ≡ 20 → ⊥) → (n ≡ 21 → ⊥) → (n ≡ 22 → ⊥)
+    → Unchanged (withOffered (expired time r)) m (arrival 64 time r m a .receiver) (arrival 64 time r m a .memory)
+refused-by-the-rules time r m a beside n = good.rules-counted 64 time r m beside n (brings 64 a)
 
 -- "but for the three refusals that free one slot (20, 21, 22)": each frees the slot that has the packet's key, and no
 -- other, and leaves the memory
-pub refused-and-freed : (r : Receiver) (m p : List ℕ) (a : Arrival) (beside : Beside) (n : ℕ)
+pub refused-and-freed : (time : ℕ) (r : Receiver) (m p : List ℕ) (a : Arrival) (beside : Beside) (n : ℕ)
     → brings 64 a ≡ packet p beside
-    → arrival 64 r m a .told ≡ given beside (refused n) → 20 ≤ n
-    → SlotFreed (keyOf p) (withOffered r) m (arrival 64 r m a .receiver) (arrival 64 r m a .memory)
-refused-and-freed r m p a beside n e = good.rules-freed 64 r m p beside n (brings 64 a) e
+    → arrival 64 time r m a .told ≡ given beside (refused n) → 20 ≤ n
+    → SlotFreed (keyOf p) (withOffered (expired time r)) m (arrival 64 time r m a .receiver)
+    (arrival 64 time r m a .memory)
+refused-and-freed time r m p a beside n e = good.rules-freed 64 time r m p beside n (brings 64 a) e
 
 -- a packet given to the message rules directly: the same
-pub given-uncounted : (r : Receiver) (m p : List ℕ) (n : ℕ) → stepOf 64 r m p .said ≡ refused n → n ≤ 2
-    → Unchanged r m (stepOf 64 r m p .receiver) (stepOf 64 r m p .memory)
+pub given-uncounted : (time : ℕ) (r : Receiver) (m p : List ℕ) (n : ℕ) → stepOf 64 time r m p .said ≡ refused n → n ≤ 2
+    → Unchanged r m (stepOf 64 time r m p .receiver) (stepOf 64 time r m p .memory)
 given-uncounted = rules.refused-uncounted 64
 
-pub given-and-refused : (r : Receiver) (m p : List ℕ) (n : ℕ) → stepOf 64 r m p .said ≡ refused n → 3 ≤ n
-    → (n ≡ 20 → ⊥) → (n ≡ 21 → ⊥) → (n ≡ 22 → ⊥)
-    → Unchanged (withOffered r) m (stepOf 64 r m p .receiver) (stepOf 64 r m p .memory)
+pub given-and-refused : (time : ℕ) (r : Receiver) (m p : List ℕ) (n : ℕ) → stepOf 64 time r m p .said ≡ refused n
+    → 3 ≤ n → (n ≡ 20 → ⊥) → (n ≡ 21 → ⊥) → (n ≡ 22 → ⊥)
+    → Unchanged (withOffered (expired time r)) m (stepOf 64 time r m p .receiver) (stepOf 64 time r m p .memory)
 given-and-refused = rules.refused-counted 64
 
-pub given-and-freed : (r : Receiver) (m p : List ℕ) (n : ℕ) → stepOf 64 r m p .said ≡ refused n → 20 ≤ n
-    → SlotFreed (keyOf p) (withOffered r) m (stepOf 64 r m p .receiver) (stepOf 64 r m p .memory)
+pub given-and-freed : (time : ℕ) (r : Receiver) (m p : List ℕ) (n : ℕ) → stepOf 64 time r m p .said ≡ refused n → 20 ≤ n
+    → SlotFreed (keyOf p) (withOffered (expired time r)) m (stepOf 64 time r m p .receiver)
+    (stepOf 64 time r m p .memory)
 given-and-freed = rules.refused-freed 64
 
 -- a slot that is refused to be freed: the receiver stays, and no memory is lent to the call
@@ -224,19 +228,21 @@ written-ring-packet-is-the-layout ring configured running read write p next e =
     ap (λ (s : putting.Entered). putting.ringAfter s ring write p) e
 
 -- "and messages are put together by the MCTP rules": packets of one key with start first, sequences rising modulo 4,
--- middles of the start's size, an end no longer, are accepted whatever may stand between; held is the sum of the bodies
--- so far, the message is the bodies joined
-pub messages-are-put-together : (r : Receiver) (m first : List ℕ) (items : List Item) (final : List ℕ)
-    (t : OneMessage 64 r m first items final)
-    → Accepted r first items final (run 64 r m (give first ∷ (callsOf items ++ (give final ∷ []))))
-    (run 64 (stepOf 64 r m first .receiver) (stepOf 64 r m first .memory) (callsOf items))
-    (slotFor (r .slots) (keyOf first))
-messages-are-put-together r m first items final t = acceptance 64 r m first items final t
+-- middles of the start's size, an end no longer, each within the limit of the one before it, are accepted whatever may
+-- stand between; held is the sum of the bodies so far, the message is the bodies joined. The counts may wrap on the
+-- way.
+pub messages-are-put-together : (r : Receiver) (m : List ℕ) (firstAt : ℕ) (first : List ℕ) (items : List Item)
+    (finalAt : ℕ) (final : List ℕ) (t : OneMessage 64 r m firstAt first items finalAt final)
+    → Accepted (expired firstAt r) first items final
+    (run 64 r m (give firstAt first ∷ (callsOf items ++ (give finalAt final ∷ []))))
+    (run 64 (stepOf 64 firstAt r m first .receiver) (stepOf 64 firstAt r m first .memory) (callsOf items))
+    (slotFor (expired firstAt r .slots) (keyOf first))
+messages-are-put-together = acceptance 64
 
 -- a message of one packet, with start and end, is done at once
-pub a-message-of-one-packet : (r : Receiver) (m p : List ℕ) → rightState 64 r ≡ true → length m ≡ 4096
-    → slotFor (r .slots) (keyOf p) < 4 → Starts 64 (r .setup) p → endOf p ≡ true
-    → AcceptedAlone r p (run 64 r m (give p ∷ [])) (slotFor (r .slots) (keyOf p))
+pub a-message-of-one-packet : (time : ℕ) (r : Receiver) (m p : List ℕ) → rightState 64 r ≡ true → length m ≡ 4096
+    → slotFor (expired time r .slots) (keyOf p) < 4 → Starts 64 (r .setup) p → endOf p ≡ true
+    → AcceptedAlone (expired time r) p (run 64 r m (give time p ∷ [])) (slotFor (expired time r .slots) (keyOf p))
 a-message-of-one-packet = single-accepted 64
 
 -- "What is written reads back the same": "a frame at its destination address,"
@@ -305,12 +311,13 @@ nothing-is-queued-while-a-reset-is-asked ring configured read write p right size
 -- "Present a fresh receiver with any finite list of arrivals, good, bad or empty, on the three paths mixed at will.
 -- What the message rules answer to the good arrivals, the messages, the end state and the message memory are those that
 -- demand 2's rules give to the bare packets of the good arrivals, in that order, from the same starting memory."
-pub the-path-does-not-matter : (s : Setup) (m : List ℕ) (arrivals : List Arrival)
+-- "Demand 3 gives both sides the same counts" (document 02, #106): any counts
+pub the-path-does-not-matter : (s : Setup) (m : List ℕ) (arrivals : List (ℕ × Arrival))
     → present 64 (fresh s) m arrivals ≡ runPackets 64 (fresh s) m (packetsOf 64 arrivals)
 the-path-does-not-matter s m arrivals = presented 64 arrivals (fresh s) m
 
 -- a fresh receiver isn't special: the same from any state and memory
-pub from-any-state : (r : Receiver) (m : List ℕ) (arrivals : List Arrival)
+pub from-any-state : (r : Receiver) (m : List ℕ) (arrivals : List (ℕ × Arrival))
     → present 64 r m arrivals ≡ runPackets 64 r m (packetsOf 64 arrivals)
 from-any-state r m arrivals = presented 64 arrivals r m
 

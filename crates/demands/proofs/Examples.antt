@@ -43,22 +43,24 @@ use Rattle.ring.specs.Reading as taking
 use Rattle.ring.specs.Writing as putting
 use Rattle.ring.proofs.Literal as image
 use Rattle.slots.specs.declared.state.SlotState.the-variants.{Free}
-use Rattle.slots.specs.Slots.{slotAt, hasKey}
-use Rattle.slots.specs.Changes.{withState, freedOf}
+use Rattle.slots.specs.Slots.{freeSlot, slotAt, hasKey, firstOf, slotOf, lowestFree}
+use Rattle.slots.specs.Changes.{withSlot, freedOf}
+use Rattle.slots.specs.Tallies.{sumOf}
+use Rattle.slots.specs.Ages.{expiredTo}
 use Rattle.slots.proofs.Literal.{tallied}
 use Rattle.receiver.specs.Effects.{Unchanged, SlotFreed}
-use Rattle.receiver.specs.Step.{stepOf}
-use Rattle.messages.specs.Run.{give, run}
-use Rattle.messages.specs.Message.{callsOf, slotFor, Accepted, AcceptedAlone}
+use Rattle.receiver.specs.Step.{refused, held, done, stepOf}
+use Rattle.messages.specs.Run.{give, rules, Ran, run, runPackets}
+use Rattle.messages.specs.Message.{callsOf, packetReplies, slotFor, Accepted, AcceptedAlone}
 use Rattle.rack.specs.declared.answer.Beside.the-variants.{Source, Notify, Next}
 use Rattle.rack.specs.Arrivals as carrier
-use Rattle.rack.specs.Arrivals.{Brought, bySmbus, byPcc, byRing, brings}
+use Rattle.rack.specs.Arrivals.{Arrival, Brought, bySmbus, byPcc, byRing, brings}
 use Rattle.rack.specs.Answers.{given, nothing, arrivedOf}
-use Rattle.demands.specs.Presenting.{arrival}
+use Rattle.demands.specs.Presenting.{arrival, present, packetIn, packetsOf}
 use Rattle.demands.proofs.Numbers.{card, empty, packetWith}
 use Rattle.demands.proofs.Checked.{literal-brought}
 use Rattle.demands.proofs.Demands as demands
-use Rattle.demands.proofs.Steps.{stranger, gathering, middles, steps}
+use Rattle.demands.proofs.Steps.{stranger, gathering, crowded, middles, steps}
 
 -- the packet that the shut-outs and these examples send, in bytes
 small : Below 256 literalPacket
@@ -71,40 +73,42 @@ no-frame : brings 64 (bySmbus [] 32) ≡ carrier.none (carrier.refused 3)
 unfolding carrier.smbusBrings smbus.refusalOf
 no-frame = refl
 
-pub without-a-packet : arrival 64 card empty (bySmbus [] 32)
+pub without-a-packet : arrival 64 0 card empty (bySmbus [] 32)
     ≡ record { told = nothing (carrier.refused 3); receiver = card; memory = empty }
-without-a-packet = demands.without-a-packet card empty (bySmbus [] 32) (carrier.refused 3) no-frame
+without-a-packet = demands.without-a-packet 0 card empty (bySmbus [] 32) (carrier.refused 3) no-frame
 
 -- document 01's frame, come to a memory of no bytes
-pub refused-uncounted : Unchanged card [] (arrival 64 card [] (bySmbus literalFrame 32) .receiver)
-    (arrival 64 card [] (bySmbus literalFrame 32) .memory)
+pub refused-uncounted : Unchanged card [] (arrival 64 0 card [] (bySmbus literalFrame 32) .receiver)
+    (arrival 64 0 card [] (bySmbus literalFrame 32) .memory)
 refused-uncounted =
-    demands.refused-uncounted card [] (bySmbus literalFrame 32) (Source 17) 2
-    (ap (λ (c : Brought). arrivedOf 64 card [] c .told) literal-brought ∙ ap (given (Source 17)) (steps .no-memory))
+    demands.refused-uncounted 0 card [] (bySmbus literalFrame 32) (Source 17) 2
+    (ap (λ (c : Brought). arrivedOf 64 0 card [] c .told) literal-brought ∙ ap (given (Source 17)) (steps .no-memory))
     (lit≤ tt)
 
-pub given-uncounted : Unchanged card [] (stepOf 64 card [] literalPacket .receiver)
-    (stepOf 64 card [] literalPacket .memory)
-given-uncounted = demands.given-uncounted card [] literalPacket 2 (steps .no-memory) (lit≤ tt)
+pub given-uncounted : Unchanged card [] (stepOf 64 0 card [] literalPacket .receiver)
+    (stepOf 64 0 card [] literalPacket .memory)
+given-uncounted = demands.given-uncounted 0 card [] literalPacket 2 (steps .no-memory) (lit≤ tt)
 
 -- and to another EID: one packet was offered
 pub refused-by-the-rules : Unchanged (tallied 0 0 1 0 stranger) empty
-    (arrival 64 stranger empty (bySmbus literalFrame 32) .receiver)
-    (arrival 64 stranger empty (bySmbus literalFrame 32) .memory)
+    (arrival 64 0 stranger empty (bySmbus literalFrame 32) .receiver)
+    (arrival 64 0 stranger empty (bySmbus literalFrame 32) .memory)
+unfolding expiredTo
 refused-by-the-rules =
-    demands.refused-by-the-rules stranger empty (bySmbus literalFrame 32) (Source 17) 16
-    (ap (λ (c : Brought). arrivedOf 64 stranger empty c .told) literal-brought
+    demands.refused-by-the-rules 0 stranger empty (bySmbus literalFrame 32) (Source 17) 16
+    (ap (λ (c : Brought). arrivedOf 64 0 stranger empty c .told) literal-brought
     ∙ ap (given (Source 17)) (steps .not-ours)) (lit≤ tt) (λ e. omega arith) (λ e. omega arith) (λ e. omega arith)
 
 pub given-and-refused : Unchanged (tallied 0 0 1 0 stranger) empty
-    (stepOf 64 stranger empty literalPacket .receiver) (stepOf 64 stranger empty literalPacket .memory)
+    (stepOf 64 0 stranger empty literalPacket .receiver) (stepOf 64 0 stranger empty literalPacket .memory)
+unfolding expiredTo
 given-and-refused =
-    demands.given-and-refused stranger empty literalPacket 16 (steps .not-ours) (lit≤ tt) (λ e. omega arith)
+    demands.given-and-refused 0 stranger empty literalPacket 16 (steps .not-ours) (lit≤ tt) (λ e. omega arith)
     (λ e. omega arith) (λ e. omega arith)
 
 -- which says: the whole receiver, and the memory
-pub one-offered : (stepOf 64 stranger empty literalPacket .receiver ≡ tallied 0 0 1 0 stranger)
-    × (stepOf 64 stranger empty literalPacket .memory ≡ empty)
+pub one-offered : (stepOf 64 0 stranger empty literalPacket .receiver ≡ tallied 0 0 1 0 stranger)
+    × (stepOf 64 0 stranger empty literalPacket .memory ≡ empty)
 one-offered = (given-and-refused .receiver, given-and-refused .memory)
 
 -- sequence 0 where 1 is the next, by a region
@@ -118,21 +122,23 @@ wrong-brought : brings 64 (byPcc wrongRegion 3) ≡ carrier.packet wrong (Notify
 wrong-brought = demands.every-packet-by-pcc wrong 3 true (all-bytes wrong tt) refl (lit≤ tt) .1
 
 pub refused-and-freed : SlotFreed (keyOf wrong) (tallied 1 1 2 0 gathering) empty
-    (arrival 64 gathering empty (byPcc wrongRegion 3) .receiver)
-    (arrival 64 gathering empty (byPcc wrongRegion 3) .memory)
+    (arrival 64 0 gathering empty (byPcc wrongRegion 3) .receiver)
+    (arrival 64 0 gathering empty (byPcc wrongRegion 3) .memory)
+unfolding expiredTo
 refused-and-freed =
-    demands.refused-and-freed gathering empty wrong (byPcc wrongRegion 3) (Notify true) 20 wrong-brought
-    (ap (λ (c : Brought). arrivedOf 64 gathering empty c .told) wrong-brought
+    demands.refused-and-freed 0 gathering empty wrong (byPcc wrongRegion 3) (Notify true) 20 wrong-brought
+    (ap (λ (c : Brought). arrivedOf 64 0 gathering empty c .told) wrong-brought
     ∙ ap (given (Notify true)) (steps .not-next)) (lit≤ tt)
 
 pub given-and-freed : SlotFreed (keyOf wrong) (tallied 1 1 2 0 gathering) empty
-    (stepOf 64 gathering empty wrong .receiver) (stepOf 64 gathering empty wrong .memory)
-given-and-freed = demands.given-and-freed gathering empty wrong 20 (steps .not-next) (lit≤ tt)
+    (stepOf 64 0 gathering empty wrong .receiver) (stepOf 64 0 gathering empty wrong .memory)
+unfolding expiredTo
+given-and-freed = demands.given-and-freed 0 gathering empty wrong 20 (steps .not-next) (lit≤ tt)
 
 -- which says: a slot of the four that has the key, the whole receiver, and the memory
 pub one-freed : (i : ℕ) × (i < 4) × (hasKey (keyOf wrong) (slotAt (gathering .slots) i) ≡ true)
-    × (stepOf 64 gathering empty wrong .receiver ≡ withState (tallied 1 1 2 0 gathering) i Free)
-    × (stepOf 64 gathering empty wrong .memory ≡ empty)
+    × (stepOf 64 0 gathering empty wrong .receiver ≡ withSlot (tallied 1 1 2 0 gathering) i freeSlot)
+    × (stepOf 64 0 gathering empty wrong .memory ≡ empty)
 one-freed =
     let f = given-and-freed in
     (f .slot, f .one-of-four, f .has-the-key, f .receiver, f .memory)
@@ -324,23 +330,89 @@ pub nothing-is-queued-while-a-reset-is-asked :
 nothing-is-queued-while-a-reset-is-asked =
     demands.nothing-is-queued-while-a-reset-is-asked (image.threeKept .ring) 128 100 8 literalPacket refl refl
 
--- document 01's message of 130, with something of each kind between its packets
-pub messages-are-put-together : Accepted card (packetWith 0xBD 64 1) middles (packetWith 0x5D 2 3)
-    (run 64 card empty (give (packetWith 0xBD 64 1) ∷ (callsOf middles ++ (give (packetWith 0x5D 2 3) ∷ []))))
-    (run 64 (stepOf 64 card empty (packetWith 0xBD 64 1) .receiver)
-    (stepOf 64 card empty (packetWith 0xBD 64 1) .memory) (callsOf middles))
+-- document 01's message of 130, with something of each kind between its packets and a count that wraps, to a receiver
+-- whose four slots are taken, but old
+abbrev whole : Ran
+whole =
+    run 64 crowded empty
+    (give 4294967000 (packetWith 0xBD 64 1) ∷ (callsOf middles ++ (give 1500 (packetWith 0x5D 2 3) ∷ [])))
+
+abbrev middle : Ran
+middle =
+    run 64 (stepOf 64 4294967000 crowded empty (packetWith 0xBD 64 1) .receiver)
+    (stepOf 64 4294967000 crowded empty (packetWith 0xBD 64 1) .memory) (callsOf middles)
+
+pub messages-are-put-together : Accepted card (packetWith 0xBD 64 1) middles (packetWith 0x5D 2 3) whole middle
     (slotFor (card .slots) (keyOf (packetWith 0xBD 64 1)))
+unfolding expiredTo sumOf
 messages-are-put-together =
-    demands.messages-are-put-together card empty (packetWith 0xBD 64 1) middles (packetWith 0x5D 2 3) (steps .whole)
+    demands.messages-are-put-together crowded empty 4294967000 (packetWith 0xBD 64 1) middles 1500 (packetWith 0x5D 2 3)
+    (steps .whole)
+
+-- which says: held in slot 0 and not again, the middle held, done; the message; and the slot is free
+pub message-of-130 : (whole .answers ≡ rules (held 0 64 false) ∷ (middle .answers ++ (rules (done 0 130 false) ∷ [])))
+    × (packetReplies middles (middle .answers) ≡ rules (held 0 128 false) ∷ [])
+    × (whole .messages ≡ middle .messages ++ ((replicate 64 1 ++ replicate 64 2 ++ replicate 2 3) ∷ []))
+    × (slotAt (whole .receiver .slots) 0 ≡ Free)
+unfolding slotFor slotOf lowestFree firstOf
+message-of-130 =
+    let a = messages-are-put-together in
+    (a .answers, a .held-so-far, a .messages, a .slot-free)
 
 pub a-message-of-one-packet :
-    AcceptedAlone card literalPacket (run 64 card empty (give literalPacket ∷ []))
+    AcceptedAlone card literalPacket (run 64 crowded empty (give 4294967000 literalPacket ∷ []))
     (slotFor (card .slots) (keyOf literalPacket))
+unfolding expiredTo sumOf
 a-message-of-one-packet =
-    demands.a-message-of-one-packet card empty literalPacket (steps .right) refl (omega (arith, steps .room))
-    (steps .one-packet) refl
+    demands.a-message-of-one-packet 4294967000 crowded empty literalPacket (steps .right-crowded) refl
+    (omega (arith, steps .room-then)) (steps .one-packet) refl
+
+pub message-of-1 : let ran = run 64 crowded empty (give 4294967000 literalPacket ∷ []) in
+    (ran .answers ≡ rules (done 0 1 false) ∷ []) × (ran .messages ≡ (0 ∷ []) ∷ [])
+    × (slotAt (ran .receiver .slots) 0 ≡ Free)
+unfolding slotFor slotOf lowestFree firstOf
+message-of-1 = let a = a-message-of-one-packet in (a .answers, a .messages, a .slot-free)
 
 -- DEMAND 3
+
+-- each packet keeps its arrival's count
+pub counts-kept : packetsOf 64
+    ((1000, bySmbus literalFrame 32) ∷ (5, bySmbus [] 32) ∷ (2001, bySmbus literalFrame 32) ∷ [])
+    ≡ (1000, literalPacket) ∷ (2001, literalPacket) ∷ []
+unfolding packetsOf
+counts-kept =
+    λ j. packetIn 1000 (literal-brought j) ++ (packetIn 5 (no-frame j) ++ (packetIn 2001 (literal-brought j) ++ []))
+
+-- a start, and its end 1,000 ms or 1,001 ms later, by two regions
+abbrev byRegions : ℕ → List (ℕ × Arrival)
+byRegions time =
+    (7, byPcc (regionFor 3 true (packetWith 0x80 1 7)) 3)
+    ∷ (time, byPcc (regionFor 3 true (packetWith 0x50 1 8)) 3)
+    ∷ []
+
+regions-bring : (time : ℕ) → packetsOf 64 (byRegions time)
+    ≡ (7, packetWith 0x80 1 7) ∷ (time, packetWith 0x50 1 8) ∷ []
+unfolding packetsOf
+regions-bring time =
+    let first = demands.every-packet-by-pcc (packetWith 0x80 1 7) 3 true (all-bytes (packetWith 0x80 1 7) tt) refl
+    (lit≤ tt) .1 in
+    let second = demands.every-packet-by-pcc (packetWith 0x50 1 8) 3 true (all-bytes (packetWith 0x50 1 8) tt) refl
+    (lit≤ tt) .1 in
+    λ j. packetIn 7 (first j) ++ (packetIn time (second j) ++ [])
+
+pub the-path-does-not-matter : (present 64 card empty (byRegions 1007) .answers
+    ≡ rules (held 0 1 false) ∷ rules (done 0 2 false) ∷ [])
+    × (present 64 card empty (byRegions 1008) .answers ≡ rules (held 0 1 false) ∷ rules (refused 19) ∷ [])
+the-path-does-not-matter = (
+  by-regions 1007 ∙ steps .ends-in-time,
+  by-regions 1008 ∙ steps .ends-late,
+)
+  where
+    by-regions : (time : ℕ) → present 64 card empty (byRegions time) .answers
+        ≡ runPackets 64 card empty ((7, packetWith 0x80 1 7) ∷ (time, packetWith 0x50 1 8) ∷ []) .answers
+    by-regions time =
+        ap (λ (ran : Ran). ran .answers) (demands.the-path-does-not-matter (card .setup) empty (byRegions time))
+        ∙ ap (λ (l : List (ℕ × List ℕ)). runPackets 64 card empty l .answers) (regions-bring time)
 
 pub every-packet-by-smbus : Below 256 (frameOf 32 17 literalPacket)
     × (brings 64 (bySmbus (frameOf 32 17 literalPacket) 32) ≡ carrier.packet literalPacket (Source 17))

@@ -1,4 +1,5 @@
--- A message that is cut into packets and fed in order to a receiver just set up is given back, whole and alone.
+-- A message that is cut into packets and fed in order, at one time, to a receiver just set up is given back, whole and
+-- alone.
 -- Assumes nothing.
 use mathlib.Core.Path.{_≡_, refl, ap, sym, transport, _∙_}
 use mathlib.Core.Bool.{Bool, true, false}
@@ -22,18 +23,21 @@ use Rattle.slots.specs.declared.state.Setup.{Setup}
 use Rattle.slots.specs.declared.state.Receiver.{Receiver}
 use Rattle.slots.specs.declared.state.SlotState.the-variants.{Gathering}
 use Rattle.slots.specs.Setup.{rightSetup, oursOf}
-use Rattle.slots.specs.Slots.{firstOf, slotOf, lowestFree}
+use Rattle.slots.specs.Slots.{freeSlot, firstOf, slotOf, lowestFree}
 use Rattle.slots.specs.State.{rightState}
 use Rattle.slots.specs.Tallies.{sumOf, gatheringIn, heldIn, nextTally}
-use Rattle.slots.specs.Changes.{freeSlot, fresh, withState, withOffered}
+use Rattle.slots.specs.Changes.{fresh, withSlot, withOffered}
+use Rattle.slots.specs.Ages.{expiredTo, expired}
+use Rattle.slots.proofs.Ages.{age-none}
 use Rattle.slots.proofs.States.{right-of}
 use Rattle.slots.proofs.Changes.{fresh-right}
 use Rattle.decision.specs.Checks.{packetOrder, sourceOrder}
 use Rattle.decision.specs.Rules.{unitRight}
-use Rattle.receiver.specs.Step.{Said, held, done, Left, stepOf}
+use Rattle.receiver.specs.Step.{Said, held, done, Left, slotIn, stepOf}
 use Rattle.receiver.proofs.Laws.{step-right}
-use Rattle.messages.specs.Run.{rules, messagesOf, Ran, ofStep, joined, run, runPackets}
-use Rattle.messages.specs.Message.{Starts, Follows, slotFor}
+use Rattle.receiver.proofs.Young.{then-none-expired}
+use Rattle.messages.specs.Run.{rules, messagesOf, Ran, ofStep, joined, run, atOnce, runPackets}
+use Rattle.messages.specs.Message.{Starts, Follows, Young, slotFor}
 use Rattle.messages.proofs.Gathering.{Gathers, middle-step, middle-gathers, end-step}
 use Rattle.messages.proofs.Gathering.{start-held, start-done, start-gathers}
 use Rattle.sender.specs.declared.heading.Heading.{Heading}
@@ -129,14 +133,15 @@ module _ (most : ℕ) (s : Setup) (m message : List ℕ) (k : ℕ) (l : Left) wh
         memory = ap (λ (x : Left). x .memory) left;
       }
 
-module _ (most most′ : ℕ) (s : Setup) (m : List ℕ) (heading : Heading) (message : List ℕ)
+module _ (most most′ time : ℕ) (s : Setup) (m : List ℕ) (heading : Heading) (message : List ℕ)
     (right : bodyRight most ≡ true)
     (larger : most ≤ most′)
     (state : rightState most′ (fresh s) ≡ true)
     (ours : oursOf s (heading .key .destination .0) ≡ true)
     (good : headingRight heading ≡ true)
     (fits : length message ≤ 1024)
-    (size : length m ≡ 4096) where
+    (size : length m ≡ 4096)
+    (bits : time < 4294967296) where
   abbrev count : ℕ
   count = packetsIn most (length message)
 
@@ -150,10 +155,11 @@ module _ (most most′ : ℕ) (s : Setup) (m : List ℕ) (heading : Heading) (me
   some : 1 ≤ most
   some = some-room most right
 
-  -- packets 0 to k were given, and none of them is the last: slot 0 gathers, its bytes are their bodies, they are
-  -- counted, and nothing else differs from what was there
+  -- packets 0 to k were given, and none of them is the last: slot 0 gathers, its bytes are their bodies, no slot is
+  -- old, they are counted, and nothing else differs from what was there
   record Under (k : ℕ) (r : Receiver) (now : List ℕ) : Type 0 where
-    gathers : Gathers most′ r now (heading .key) 0 ((heading .first + k) % 4) most (upTo k)
+    gathers : Gathers most′ r now (heading .key) 0 time ((heading .first + k) % 4) most (upTo k)
+    none-old : expired time r ≡ r
     setup : r .setup ≡ s
     freed : set (r .slots) 0 freeSlot ≡ fresh s .slots
     offered : r .tallies .offered ≡ suc k
@@ -166,7 +172,7 @@ module _ (most most′ : ℕ) (s : Setup) (m : List ℕ) (heading : Heading) (me
     p = packet (suc k)
 
     abbrev left : Left
-    left = stepOf most′ r now p
+    left = stepOf most′ time r now p
 
     grown : upTo k ++ bodyOf p ≡ upTo (suc k)
     grown =
@@ -212,6 +218,10 @@ module _ (most most′ : ℕ) (s : Setup) (m : List ℕ) (heading : Heading) (me
           room = omega (arith, total, length-take (suc (suc k) * most) message);
         }
 
+    -- all of them come at one time
+    in-time : Young (r .setup) time time
+    in-time = omega (arith, age-none time bits)
+
     -- a middle
     module _ (more : suc k + 1 < count) where
       goes-on : endOf p ≡ false
@@ -221,11 +231,19 @@ module _ (most most′ : ℕ) (s : Setup) (m : List ℕ) (heading : Heading) (me
           ≡ record {
             said = held 0 (length (upTo k) + length (bodyOf p)) false;
             receiver =
-                withState (withOffered r) 0
-                (Gathering (heading .key) (sequenceOf p) most (length (upTo k) + length (bodyOf p)));
+                withSlot (withOffered r) 0
+                (slotIn (Gathering (heading .key) (sequenceOf p) most (length (upTo k) + length (bodyOf p))) time);
             memory = laid now (1024 * 0 + length (upTo k)) (bodyOf p);
           }
-      middle-left = middle-step most′ r now (heading .key) 0 _ most (upTo k) (U .gathers) p follows goes-on
+      middle-left =
+          middle-step most′ time r now (heading .key) 0 _ _ most (upTo k) (U .gathers) in-time p follows goes-on
+          ∙ ap (λ (q : Receiver). record {
+            said = held 0 (length (upTo k) + length (bodyOf p)) false;
+            receiver =
+                withSlot (withOffered q) 0
+                (slotIn (Gathering (heading .key) (sequenceOf p) most (length (upTo k) + length (bodyOf p))) time);
+            memory = laid now (1024 * 0 + length (upTo k)) (bodyOf p);
+          }) (U .none-old)
 
       middle-said : left .said ≡ held 0 ((suc k + 1) * most) false
       middle-said =
@@ -239,8 +257,10 @@ module _ (most most′ : ℕ) (s : Setup) (m : List ℕ) (heading : Heading) (me
           record {
             gathers =
                 transport
-                (λ j. Gathers most′ (left .receiver) (left .memory) (heading .key) 0 (sequence j) most (grown j))
-                (middle-gathers most′ r now (heading .key) 0 _ most (upTo k) (U .gathers) p follows goes-on);
+                (λ j. Gathers most′ (left .receiver) (left .memory) (heading .key) 0 time (sequence j) most (grown j))
+                (middle-gathers most′ time r now (heading .key) 0 _ _ most (upTo k)
+                (U .gathers) in-time p follows goes-on);
+            none-old = then-none-expired most′ time r now p bits (U .gathers .right) (U .gathers .memory);
             setup = ap (λ (l : Left). l .receiver .setup) middle-left ∙ U .setup;
             freed =
                 ap (λ (l : Left). set (l .receiver .slots) 0 freeSlot) middle-left
@@ -259,26 +279,29 @@ module _ (most most′ : ℕ) (s : Setup) (m : List ℕ) (heading : Heading) (me
         let ends = packet-end most heading message (suc k) good ∙ eq-eqb (suc k + 1) count last in
         let all = taken-all most message (suc k) some last in
         let bytes = total ∙ ap length all in
-        let step = end-step most′ r now (heading .key) 0 _ most (upTo k) (U .gathers) p follows ends in
+        let step = end-step most′ time r now (heading .key) 0 _ _ most (upTo k) (U .gathers) in-time p follows ends in
         let said = ap (λ (l : Left). l .said) step ∙ ap (λ (n : ℕ). done 0 n false) bytes in
         let memory = ap (λ (l : Left). l .memory) step ∙ laid-on ∙ ap (laid m 0) all in
         let receiver =
-        idle-of most′ s (left .receiver) (suc k + 1) 1 (step-right most′ r now p (U .gathers .right))
-        (ap (λ (l : Left). l .receiver .setup) step ∙ U .setup)
-        (ap (λ (l : Left). l .receiver .slots) step ∙ U .freed)
-        (ap (λ (l : Left). l .receiver .tallies .offered) step ∙ one-more ∙ omega arith)
-        (ap (λ (l : Left). l .receiver .tallies .done) step ∙ ap nextTally (U .done)) in
+        idle-of most′ s (left .receiver) (suc k + 1) 1 (step-right most′ time r now p (U .gathers .right))
+        (ap (λ (l : Left). l .receiver .setup) step ∙ ap (λ (q : Receiver). q .setup) (U .none-old) ∙ U .setup)
+        (ap (λ (l : Left). l .receiver .slots) step ∙ ap (λ (q : Receiver). set (q .slots) 0 freeSlot) (U .none-old)
+        ∙ U .freed)
+        (ap (λ (l : Left). l .receiver .tallies .offered) step
+        ∙ ap (λ (q : Receiver). nextTally (q .tallies .offered)) (U .none-old) ∙ one-more ∙ omega arith)
+        (ap (λ (l : Left). l .receiver .tallies .done) step
+        ∙ ap (λ (q : Receiver). nextTally (q .tallies .done)) (U .none-old) ∙ ap nextTally (U .done)) in
         λ j. record { said = said j; receiver = receiver j; memory = memory j }
 
   -- the packets after packet k, one more than n of them
   rest-gives : (n k : ℕ) (r : Receiver) (now : List ℕ) → Under k r now → suc k + suc n ≡ count
-      → Gives most s m message (suc k) (suc n) (runPackets most′ r now (along packet (suc k) (suc n)))
+      → Gives most s m message (suc k) (suc n) (runPackets most′ r now (atOnce time (along packet (suc k) (suc n))))
   unfolding run along
   rest-gives zero k r now U e =
-      gives-last most s m message (suc k) (stepOf most′ r now (packet (suc k))) (omega arith) (omega arith)
+      gives-last most s m message (suc k) (stepOf most′ time r now (packet (suc k))) (omega arith) (omega arith)
       (last-left k r now U (omega arith) (omega arith))
   rest-gives (suc n) k r now U e =
-      let l = stepOf most′ r now (packet (suc k)) in
+      let l = stepOf most′ time r now (packet (suc k)) in
       let h : suc k < count = omega arith in
       let more : suc k + 1 < count = omega arith in
       gives-more most s m message (suc k) l (suc n) _ more (middle-said k r now U h more)
@@ -287,7 +310,7 @@ module _ (most most′ : ℕ) (s : Setup) (m : List ℕ) (heading : Heading) (me
   -- the first packet, which goes to slot 0
   module _ (h : 0 < count) where
     abbrev begun : Left
-    begun = stepOf most′ (fresh s) m (packet 0)
+    begun = stepOf most′ time (fresh s) m (packet 0)
 
     starts : Starts most′ s (packet 0)
     starts =
@@ -314,13 +337,15 @@ module _ (most most′ : ℕ) (s : Setup) (m : List ℕ) (heading : Heading) (me
           ≡ record {
             said = held 0 (length (bodyOf (packet 0))) false;
             receiver =
-                withState (withOffered (fresh s)) 0
+                withSlot (withOffered (fresh s)) 0
+                (slotIn
                 (Gathering (keyOf (packet 0)) (sequenceOf (packet 0)) (length (bodyOf (packet 0)))
-                (length (bodyOf (packet 0))));
+                (length (bodyOf (packet 0))))
+                time);
             memory = laid m 0 (bodyOf (packet 0));
           }
-      unfolding slotFor slotOf lowestFree firstOf
-      first-left = start-held most′ (fresh s) m (packet 0) state size starts (lit< tt) first-goes-on
+      unfolding slotFor slotOf lowestFree firstOf expiredTo
+      first-left = start-held most′ time (fresh s) m (packet 0) state size starts (lit< tt) first-goes-on
 
       first-said : begun .said ≡ held 0 ((0 + 1) * most) false
       first-said =
@@ -328,16 +353,17 @@ module _ (most most′ : ℕ) (s : Setup) (m : List ℕ) (heading : Heading) (me
           ∙ ap (λ (n : ℕ). held 0 n false) (first-size ∙ sym (one-mul most))
 
       first-under : Under 0 (begun .receiver) (begun .memory)
-      unfolding slotFor slotOf lowestFree firstOf
+      unfolding slotFor slotOf lowestFree firstOf expiredTo
       first-under =
           let key = packet-key most heading message 0 good in
           let sequence = packet-sequence most heading message 0 good in
           record {
             gathers =
                 transport
-                (λ j. Gathers most′ (begun .receiver) (begun .memory) (key j) 0 (sequence j) (first-size j)
+                (λ j. Gathers most′ (begun .receiver) (begun .memory) (key j) 0 time (sequence j) (first-size j)
                 (first-body j))
-                (start-gathers most′ (fresh s) m (packet 0) state size starts (lit< tt) first-goes-on);
+                (start-gathers most′ time (fresh s) m (packet 0) state size starts (lit< tt) first-goes-on);
+            none-old = then-none-expired most′ time (fresh s) m (packet 0) bits state size;
             setup = ap (λ (l : Left). l .receiver .setup) first-left;
             freed = ap (λ (l : Left). set (l .receiver .slots) 0 freeSlot) first-left;
             offered = ap (λ (l : Left). l .receiver .tallies .offered) first-left;
@@ -349,20 +375,21 @@ module _ (most most′ : ℕ) (s : Setup) (m : List ℕ) (heading : Heading) (me
     alone-left : 0 + 1 ≡ count
         → begun
         ≡ record { said = done 0 (length message) false; receiver = idle s (0 + 1) 1; memory = laid m 0 message }
-    unfolding slotFor slotOf lowestFree firstOf
+    unfolding slotFor slotOf lowestFree firstOf expiredTo
     alone-left last =
         let ends = packet-end most heading message 0 good ∙ eq-eqb (0 + 1) count last in
         let all = first-body ∙ taken-all most message 0 some last in
-        let step = start-done most′ (fresh s) m (packet 0) state size starts (lit< tt) ends in
+        let step = start-done most′ time (fresh s) m (packet 0) state size starts (lit< tt) ends in
         let said = ap (λ (l : Left). l .said) step ∙ ap (λ (b : List ℕ). done 0 (length b) false) all in
         let memory = ap (λ (l : Left). l .memory) step ∙ ap (laid m 0) all in
         let receiver =
-        idle-of most′ s (begun .receiver) (0 + 1) 1 (step-right most′ (fresh s) m (packet 0) state)
+        idle-of most′ s (begun .receiver) (0 + 1) 1 (step-right most′ time (fresh s) m (packet 0) state)
         (ap (λ (l : Left). l .receiver .setup) step) (ap (λ (l : Left). l .receiver .slots) step)
         (ap (λ (l : Left). l .receiver .tallies .offered) step) (ap (λ (l : Left). l .receiver .tallies .done) step) in
         λ j. record { said = said j; receiver = receiver j; memory = memory j }
 
-    all-give : (n : ℕ) → n ≡ count → Gives most s m message 0 n (runPackets most′ (fresh s) m (along packet 0 n))
+    all-give : (n : ℕ) → n ≡ count
+        → Gives most s m message 0 n (runPackets most′ (fresh s) m (atOnce time (along packet 0 n)))
     unfolding run along
     all-give zero e = absurd (omega arith)
     all-give (suc zero) e = gives-last most s m message 0 begun (omega arith) e (alone-left e)
@@ -374,7 +401,7 @@ module _ (most most′ : ℕ) (s : Setup) (m : List ℕ) (heading : Heading) (me
 -- all packets of a message, fed in order to a receiver just set up that the destination is for: held, held, .., done;
 -- the message and nothing else; every slot free again, the packets counted and one message done; and of the memory the
 -- front alone changes
-pub fed-in-order : (most most′ : ℕ) (s : Setup) (m : List ℕ) (heading : Heading) (message : List ℕ)
+pub fed-in-order : (most most′ time : ℕ) (s : Setup) (m : List ℕ) (heading : Heading) (message : List ℕ)
     → bodyRight most ≡ true
     → bodyRight most′ ≡ true
     → most ≤ most′
@@ -383,10 +410,11 @@ pub fed-in-order : (most most′ : ℕ) (s : Setup) (m : List ℕ) (heading : He
     → headingRight heading ≡ true
     → messageRight (length message) ≡ true
     → length m ≡ 4096
-    → GivesMessage most s m message (runPackets most′ (fresh s) m (allPackets most heading message))
-fed-in-order most most′ s m heading message right right′ larger setup ours good sized size =
+    → time < 4294967296
+    → GivesMessage most s m message (runPackets most′ (fresh s) m (atOnce time (allPackets most heading message)))
+fed-in-order most most′ time s m heading message right right′ larger setup ours good sized size bits =
     let bounds = within-bounds 1 1024 (length message) sized in
     let first = counted most (length message) 0 (some-room most right) (rw (zero-mul most) (bounds .0)) in
-    let G = all-give most most′ s m heading message right larger (fresh-right most′ s right′ setup) ours good
-    (bounds .1) size first (packetsIn most (length message)) refl in
+    let G = all-give most most′ time s m heading message right larger (fresh-right most′ s right′ setup) ours good
+    (bounds .1) size bits first (packetsIn most (length message)) refl in
     record { answers = G .answers; messages = G .messages; receiver = G .receiver; memory = G .memory }

@@ -11,6 +11,8 @@ pub mod Ways
 pub mod Demands
 pub mod Tallies
 pub mod TallyExamples
+pub mod Ages
+pub mod AgeExamples
 pub mod Sending
 pub mod SendingExamples
 pub mod Calls

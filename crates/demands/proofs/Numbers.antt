@@ -12,16 +12,16 @@ use Rattle.ring.specs.Numbers.{filledOf, roomOf}
 use Rattle.slots.specs.declared.state.Receiver.{Receiver}
 use Rattle.slots.specs.Changes.{fresh}
 use Rattle.receiver.specs.Step.{held, done}
-use Rattle.messages.specs.Run.{rules, runPackets}
+use Rattle.messages.specs.Run.{rules, atOnce, runPackets}
 use Rattle.sender.specs.Whole.{allPackets}
 use Rattle.rack.specs.declared.answer.Beside.the-variants.{Source}
 use Rattle.rack.specs.Arrivals.{bySmbus}
 use Rattle.rack.specs.Answers.{given}
 use Rattle.demands.specs.Presenting.{arrival}
 
--- a receiver just set up, and its memory
+-- a receiver just set up, with a limit of a second, and its memory
 abbrev pub card : Receiver
-card = fresh (record { own = record { 0 = 9 } })
+card = fresh (record { own = record { 0 = 9 }; limit = 1000 })
 
 abbrev pub empty : List ℕ
 empty = replicate 4096 0
@@ -37,7 +37,7 @@ pub record Numbers : Type 0 where
   pub pec-of-80 : pecOf (0x80 ∷ []) ≡ 0x89
   pub pec-of-01-01 : pecOf (0x01 ∷ 0x01 ∷ []) ≡ 0x12
   -- "`40 0F 06 23 01 09 0A C8 00 71` is a good frame for address 0x20: done at EID 9, length 1."
-  pub good-frame : arrival 64 card empty
+  pub good-frame : arrival 64 0 card empty
       (bySmbus (0x40 ∷ 0x0F ∷ 0x06 ∷ 0x23 ∷ 0x01 ∷ 0x09 ∷ 0x0A ∷ 0xC8 ∷ 0x00 ∷ 0x71 ∷ []) 0x20) .told
       ≡ given (Source 0x11) (done 0 1 false)
   -- "ring 128: read 120, write 8: filled 16, room 108. Both 0: filled 0, room 124. Read 4, write 0: filled 124, room
@@ -47,10 +47,10 @@ pub record Numbers : Type 0 where
   pub full : (filledOf 128 4 0 ≡ 124) × (roomOf 128 4 0 ≡ 0)
   -- "bodies 64, 64, 2 with flags BD, 0D, 5D make a message of 130."
   pub answers : runPackets 64 card empty
-      (packetWith 0xBD 64 1 ∷ packetWith 0x0D 64 2 ∷ packetWith 0x5D 2 3 ∷ []) .answers
+      (atOnce 0 (packetWith 0xBD 64 1 ∷ packetWith 0x0D 64 2 ∷ packetWith 0x5D 2 3 ∷ [])) .answers
       ≡ rules (held 0 64 false) ∷ rules (held 0 128 false) ∷ rules (done 0 130 false) ∷ []
   pub message : runPackets 64 card empty
-      (packetWith 0xBD 64 1 ∷ packetWith 0x0D 64 2 ∷ packetWith 0x5D 2 3 ∷ []) .messages
+      (atOnce 0 (packetWith 0xBD 64 1 ∷ packetWith 0x0D 64 2 ∷ packetWith 0x5D 2 3 ∷ [])) .messages
       ≡ (replicate 64 1 ++ replicate 64 2 ++ replicate 2 3) ∷ []
   -- that message from EID 10 to EID 9, tag owner, tag 5, first sequence 3, cut into packets (document 02, #101): the
   -- same three

@@ -12,21 +12,22 @@ use Rattle.demands.specs.Presenting.{ofArrival, present, packetIn, packe
 
 module _ (most : ℕ) where
   -- the rest leaves what a run of its packets leaves, from any state and memory
-  abbrev Alike : List Arrival → Type 0
+  abbrev Alike : List (ℕ × Arrival) → Type 0
   Alike arrivals =
       (r : Receiver) (m : List ℕ) → present most r m arrivals ≡ runPackets most r m (packetsOf most arrivals)
 
   -- one arrival, whatever its carrier made of it, and then the rest
-  then : (r : Receiver) (m : List ℕ) (c : Brought) (arrivals : List Arrival) → Alike arrivals
-      → joined (ofArrival (arrivedOf most r m c))
-      (present most (arrivedOf most r m c .receiver) (arrivedOf most r m c .memory) arrivals)
-      ≡ runPackets most r m (packetIn c ++ packetsOf most arrivals)
+  then : (time : ℕ) (r : Receiver) (m : List ℕ) (c : Brought) (arrivals : List (ℕ × Arrival)) → Alike arrivals
+      → joined (ofArrival (arrivedOf most time r m c))
+      (present most (arrivedOf most time r m c .receiver) (arrivedOf most time r m c .memory) arrivals)
+      ≡ runPackets most r m (packetIn time c ++ packetsOf most arrivals)
   unfolding run
-  then r m (packet p beside) arrivals rest =
-      ap (joined (called most r m (give p))) (rest (stepOf most r m p .receiver) (stepOf most r m p .memory))
-  then r m (none why) arrivals rest = rest r m
+  then time r m (packet p beside) arrivals rest =
+      ap (joined (called most r m (give time p)))
+      (rest (stepOf most time r m p .receiver) (stepOf most time r m p .memory))
+  then time r m (none why) arrivals rest = rest r m
 
-  pub presented : (arrivals : List Arrival) → Alike arrivals
+  pub presented : (arrivals : List (ℕ × Arrival)) → Alike arrivals
   unfolding present packetsOf run
   presented [] r m = refl
-  presented (a ∷ arrivals) r m = then r m (brings most a) arrivals (presented arrivals)
+  presented (a ∷ arrivals) r m = then (a .0) r m (brings most (a .1)) arrivals (presented arrivals)

@@ -23,7 +23,7 @@ use Rattle.slots.specs.declared.state.Setup.{Setup}
 use Rattle.slots.specs.Changes.{fresh}
 use Rattle.slots.specs.Setup.{rightSetup, oursOf}
 use Rattle.decision.specs.Checks.{packetOrder, sourceOrder}
-use Rattle.messages.specs.Run.{runPackets}
+use Rattle.messages.specs.Run.{atOnce, runPackets}
 use Rattle.sender.specs.declared.heading.Heading.{Heading}
 use Rattle.sender.specs.Cutting.{packetsIn, packetAt, headingRight, messageRight, countOf, cutRefusal}
 use Rattle.sender.specs.Sending.{outputRefusal, outputSize, outputWritten, smbusRefusal, smbusSize, smbusWritten}
@@ -125,32 +125,41 @@ the-rules-take-every-packet s heading message k =
     packet-checked 64 64 s heading message k refl (omega arith)
 
 -- "Fed in order to a fresh receiver which the destination suits, they give that message": held, held, .., done in slot
--- 0; that message and nothing else; every slot free at the end; from any memory, of which the front alone changes
-pub they-give-that-message : (s : Setup) (m : List ℕ) (heading : Heading) (message : List ℕ)
+-- 0; that message and nothing else; every slot free at the end; from any memory, of which the front alone changes.
+-- "#101's packets are fed at one time" (document 02, #106): at any count of 32 bits
+pub they-give-that-message : (time : ℕ) (s : Setup) (m : List ℕ) (heading : Heading) (message : List ℕ)
     → rightSetup s ≡ true → oursOf s (heading .key .destination .0) ≡ true
     → headingRight heading ≡ true → messageRight (length message) ≡ true → length m ≡ 4096
-    → GivesMessage 64 s m message (runPackets 64 (fresh s) m (allPackets 64 heading message))
-they-give-that-message s m heading message = fed-in-order 64 64 s m heading message refl refl (omega arith)
+    → time < 4294967296
+    → GivesMessage 64 s m message (runPackets 64 (fresh s) m (atOnce time (allPackets 64 heading message)))
+they-give-that-message time s m heading message =
+    fed-in-order 64 64 time s m heading message refl refl (omega arith)
 
 -- so they do for every largest body, at a receiver whose own is as large or larger
-pub they-give-it-to-a-larger-receiver : (most most′ : ℕ) (s : Setup) (m : List ℕ) (heading : Heading)
+pub they-give-it-to-a-larger-receiver : (most most′ time : ℕ) (s : Setup) (m : List ℕ) (heading : Heading)
     (message : List ℕ)
     → bodyRight most ≡ true → bodyRight most′ ≡ true → most ≤ most′
     → rightSetup s ≡ true → oursOf s (heading .key .destination .0) ≡ true
     → headingRight heading ≡ true → messageRight (length message) ≡ true → length m ≡ 4096
-    → GivesMessage most s m message (runPackets most′ (fresh s) m (allPackets most heading message))
+    → time < 4294967296
+    → GivesMessage most s m message (runPackets most′ (fresh s) m (atOnce time (allPackets most heading message)))
 they-give-it-to-a-larger-receiver = fed-in-order
 
 -- "Packet k also goes straight onto any of the three paths.": each packet on a path of its own, none refused, and what
 -- was written presented as arrivals
-pub they-give-it-on-any-mix-of-paths : (s : Setup) (m : List ℕ) (heading : Heading) (message : List ℕ) (ways : ℕ → Way)
+pub they-give-it-on-any-mix-of-paths : (time : ℕ) (s : Setup) (m : List ℕ) (heading : Heading) (message : List ℕ)
+    (ways : ℕ → Way)
     → rightSetup s ≡ true → oursOf s (heading .key .destination .0) ≡ true
     → headingRight heading ≡ true → messageRight (length message) ≡ true → length m ≡ 4096
+    → time < 4294967296
     → ((k : ℕ) → k < packetsIn 64 (length message) → Goes 64 heading message (ways k) k)
-    → GivesMessage 64 s m message (present 64 (fresh s) m (arrivals 64 heading message ways))
-they-give-it-on-any-mix-of-paths s m heading message ways right ours numbers sized memory goes =
-    rw (the-path-does-not-matter s m (arrivals 64 heading message ways), sent-packets 64 heading message ways goes)
-    (they-give-that-message s m heading message right ours numbers sized memory)
+    → GivesMessage 64 s m message (present 64 (fresh s) m (atOnce time (arrivals 64 heading message ways)))
+they-give-it-on-any-mix-of-paths time s m heading message ways right ours numbers sized memory bits goes =
+    rw (
+      the-path-does-not-matter s m (atOnce time (arrivals 64 heading message ways)),
+      sent-packets 64 heading message ways time goes,
+    )
+    (they-give-that-message time s m heading message right ours numbers sized memory bits)
 
 -- and none is refused where the carriers' numbers are right: addresses, id, outputs, and a ring that is empty at any
 -- right pointer, in normal runtime

@@ -16,10 +16,11 @@ use Rattle.pcc.specs.Writing as regions
 use Rattle.mmbi.specs.Interface.{normalRuntime, stateOf}
 use Rattle.ring.specs.Writing as rings
 use Rattle.slots.specs.declared.state.Setup.{Setup}
-use Rattle.slots.specs.Changes.{freeSlot, fresh}
+use Rattle.slots.specs.Slots.{freeSlot}
+use Rattle.slots.specs.Changes.{fresh}
 use Rattle.decision.specs.Checks.{packetOrder, sourceOrder}
 use Rattle.receiver.specs.Step.{held, done}
-use Rattle.messages.specs.Run.{rules, runPackets}
+use Rattle.messages.specs.Run.{rules, Ran, atOnce, runPackets}
 use Rattle.sender.specs.Cutting.{packetAt, headingRight, messageRight, countOf, cutRefusal}
 use Rattle.sender.specs.Sending.{outputRefusal, outputSize, outputWritten, smbusRefusal, smbusWritten}
 use Rattle.sender.specs.Sending.{pccRefusal, pccWritten}
@@ -34,7 +35,7 @@ use Rattle.demands.proofs.Sending as sending
 
 -- the card at EID 9
 abbrev nine : Setup
-nine = record { own = record { 0 = 9 } }
+nine = record { own = record { 0 = 9 }; limit = 1000 }
 
 -- the least and the largest of each number
 pub these-may-be-sent : ((headingRight (headed 0 0 true 0 0) ≡ true) × (messageRight 1 ≡ true))
@@ -89,21 +90,24 @@ pub the-rules-take-every-packet : Hold (packetOrder 64 nine (packetAt 64 answeri
     ++ sourceOrder (packetAt 64 answering message130 2))
 the-rules-take-every-packet = sending.the-rules-take-every-packet nine answering message130 2 refl refl (lit< tt)
 
--- 130 bytes: held, held, done
-pub they-give-that-message : GivesMessage 64 nine empty message130
-    (runPackets 64 (fresh nine) empty (allPackets 64 answering message130))
-they-give-that-message = sending.they-give-that-message nine empty answering message130 refl refl refl refl refl
+-- 130 bytes, at the last count: held, held, done
+abbrev fed : Ran
+fed = runPackets 64 (fresh nine) empty (atOnce 4294967295 (allPackets 64 answering message130))
 
-pub three-answers : runPackets 64 (fresh nine) empty (allPackets 64 answering message130) .answers
+pub they-give-that-message : GivesMessage 64 nine empty message130 fed
+they-give-that-message =
+    sending.they-give-that-message 4294967295 nine empty answering message130 refl refl refl refl refl (lit< tt)
+
+pub three-answers : fed .answers
     ≡ rules (held 0 64 false) ∷ rules (held 0 128 false) ∷ rules (done 0 130 false) ∷ []
 unfolding along
 three-answers = they-give-that-message .answers
 
-pub one-message : runPackets 64 (fresh nine) empty (allPackets 64 answering message130) .messages ≡ message130 ∷ []
+pub one-message : fed .messages ≡ message130 ∷ []
 one-message = they-give-that-message .messages
 
 -- every slot is free, three packets were offered, one message is done
-pub all-free : runPackets 64 (fresh nine) empty (allPackets 64 answering message130) .receiver
+pub all-free : fed .receiver
     ≡ record {
       setup = nine;
       slots = replicate 4 freeSlot;
@@ -111,27 +115,29 @@ pub all-free : runPackets 64 (fresh nine) empty (allPackets 64 answering message
     }
 all-free = they-give-that-message .receiver
 
-pub front-alone : runPackets 64 (fresh nine) empty (allPackets 64 answering message130) .memory
+pub front-alone : fed .memory
     ≡ laid empty 0 message130
 front-alone = they-give-that-message .memory
 
 -- a broadcast, to a receiver without an EID, whose memory holds something
-pub they-give-a-broadcast : GivesMessage 64 (record { own = record { 0 = 0 } }) (replicate 4096 7) message130
-    (runPackets 64 (fresh (record { own = record { 0 = 0 } })) (replicate 4096 7)
-    (allPackets 64 (headed 255 0 false 2 1) message130))
+pub they-give-a-broadcast : GivesMessage 64 (record { own = record { 0 = 0 }; limit = 1 }) (replicate 4096 7) message130
+    (runPackets 64 (fresh (record { own = record { 0 = 0 }; limit = 1 })) (replicate 4096 7)
+    (atOnce 5 (allPackets 64 (headed 255 0 false 2 1) message130)))
 they-give-a-broadcast =
-    sending.they-give-that-message (record { own = record { 0 = 0 } }) (replicate 4096 7) (headed 255 0 false 2 1)
-    message130 refl refl refl refl refl
+    sending.they-give-that-message 5 (record { own = record { 0 = 0 }; limit = 1 }) (replicate 4096 7)
+    (headed 255 0 false 2 1) message130 refl refl refl refl refl (lit< tt)
 
 -- cut by 64, and by 246, for a receiver that takes 246
 pub they-give-it-to-a-larger-receiver :
-    GivesMessage 64 nine empty message130 (runPackets 246 (fresh nine) empty (allPackets 64 answering message130))
-    × GivesMessage 246 nine empty message130 (runPackets 246 (fresh nine) empty (allPackets 246 answering message130))
+    GivesMessage 64 nine empty message130
+    (runPackets 246 (fresh nine) empty (atOnce 0 (allPackets 64 answering message130)))
+    × GivesMessage 246 nine empty message130
+    (runPackets 246 (fresh nine) empty (atOnce 0 (allPackets 246 answering message130)))
 they-give-it-to-a-larger-receiver = (
-  sending.they-give-it-to-a-larger-receiver 64 246 nine empty answering message130 refl refl (lit≤ tt) refl refl refl
-      refl refl,
-  sending.they-give-it-to-a-larger-receiver 246 246 nine empty answering message130 refl refl (lit≤ tt) refl refl refl
-      refl refl,
+  sending.they-give-it-to-a-larger-receiver 64 246 0 nine empty answering message130 refl refl (lit≤ tt) refl refl
+      refl refl refl (lit< tt),
+  sending.they-give-it-to-a-larger-receiver 246 246 0 nine empty answering message130 refl refl (lit≤ tt) refl refl
+      refl refl refl (lit< tt),
 )
 
 -- a frame, a region, and then a ring that is empty at its last pointer, so that the packet runs over the ring's end
@@ -158,9 +164,9 @@ pub ways-at-their-borders :
 ways-at-their-borders = refl
 
 pub they-give-it-on-any-mix-of-paths : GivesMessage 64 nine empty message130
-    (present 64 (fresh nine) empty (arrivals 64 answering message130 ways))
+    (present 64 (fresh nine) empty (atOnce 7 (arrivals 64 answering message130 ways)))
 they-give-it-on-any-mix-of-paths =
-    sending.they-give-it-on-any-mix-of-paths nine empty answering message130 ways refl refl refl refl refl
+    sending.they-give-it-on-any-mix-of-paths 7 nine empty answering message130 ways refl refl refl refl refl (lit< tt)
     (λ k h. sending.right-numbers-are-never-refused answering message130 (ways k) k refl refl h (ways-right k))
 
 -- nothing is written: no room, an address that is none, an id that is none, a pointer that is none

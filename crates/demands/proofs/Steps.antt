@@ -12,73 +12,91 @@ use Rattle.octets.specs.Bytes.{laid}
 use Rattle.mctp.specs.Key.{keyOf, headerOf, sameKey}
 use Rattle.smbus.proofs.Literal.{literalPacket}
 use Rattle.slots.specs.declared.state.Receiver.{Receiver}
-use Rattle.slots.specs.declared.state.SlotState.the-variants.{Free, Gathering}
-use Rattle.slots.specs.Slots.{slotAt, isFree, firstOf, slotOf, lowestFree}
+use Rattle.slots.specs.declared.state.SlotState.the-variants.{Gathering}
+use Rattle.slots.specs.Slots.{freeSlot, slotAt, isFree, firstOf, slotOf, lowestFree}
 use Rattle.slots.specs.State.{multiple, rightNumbers, rightSlot, clash, rightState}
 use Rattle.slots.specs.Tallies.{sumOf}
 use Rattle.slots.specs.Changes.{fresh, freeRefusal}
+use Rattle.slots.specs.Ages.{expiredTo, expired}
+use Rattle.slots.proofs.Literal.{with-slots, gathering as filled}
 use Rattle.decision.specs.Rules.{after, onStart, gathered, onFollow, ruled}
 use Rattle.decision.specs.Decision.{decided}
-use Rattle.receiver.specs.Step.{refused, held, stepOf}
-use Rattle.messages.specs.Run.{give, free}
+use Rattle.receiver.specs.Step.{refused, held, done, offeredTo, stepOf}
+use Rattle.messages.specs.Run.{give, free, rules, run, runPackets}
 use Rattle.messages.specs.Message.{Item, packet, between, Starts, Middles, OneMessage, slotFor}
 use Rattle.demands.proofs.Numbers.{card, empty, packetWith}
 
 -- a receiver with another EID
 abbrev pub stranger : Receiver
-stranger = fresh (record { own = record { 0 = 8 } })
+stranger = fresh (record { own = record { 0 = 8 }; limit = 1000 })
 
 -- a receiver that has taken a start of one byte
 abbrev pub gathering : Receiver
 gathering =
     record {
-      setup = record { own = record { 0 = 9 } };
+      setup = record { own = record { 0 = 9 }; limit = 1000 };
       slots =
           record {
             state = Gathering
                 (record { destination = record { 0 = 9 }; source = record { 0 = 10 }; owner = false; tag = 0 }) 0 1 1;
+            since = 0;
           }
-          ∷ record { state = Free }
-          ∷ record { state = Free }
-          ∷ record { state = Free }
+          ∷ freeSlot
+          ∷ freeSlot
+          ∷ freeSlot
           ∷ [];
       tallies = record { gathering = 1; held = 1; offered = 1; done = 0 };
     }
 
--- document 01's message of 130, with a packet of another key, one that is refused and a slot freed between its packets
+-- a receiver that has no slot free: four starts at 0, one of them of the key of document 01's message
+abbrev pub crowded : Receiver
+crowded = with-slots (filled 4 64) (filled 5 64) (filled 6 64) (filled 7 64)
+
+-- document 01's message of 130, with a packet of another key, one that is refused and a slot freed between its packets:
+-- the count wraps before the middle, and the end comes at the limit. All four starts are old by then.
 abbrev pub middles : List Item
 middles =
-    between (give (packetWith 0x80 1 7))
-    ∷ packet (packetWith 0x0D 64 2)
-    ∷ between (give [])
+    between (give 4294967290 (packetWith 0x80 1 7))
+    ∷ packet 500 (packetWith 0x0D 64 2)
+    ∷ between (give 1500 [])
     ∷ between (free 3)
     ∷ []
 
 pub record Steps : Type 0 where
-  pub first-taken : isFree (slotAt (stepOf 64 card empty (packetWith 0x80 1 7) .receiver .slots) 0) ≡ false
-  pub first-laid : getD (stepOf 64 card empty (packetWith 0x80 1 7) .memory) 0 0 ≡ 7
-  pub second-laid : getD (stepOf 64 gathering empty (packetWith 0x50 1 7) .memory) 1 0 ≡ 7
-  pub held-one : stepOf 64 card empty (packetWith 0x80 1 7) .said ≡ held 0 1 false
-  pub held-two : stepOf 64 card empty (packetWith 0x80 2 7) .said ≡ held 0 2 false
-  pub no-memory : stepOf 64 card [] literalPacket .said ≡ refused 2
-  pub not-ours : stepOf 64 stranger empty literalPacket .said ≡ refused 16
-  pub not-next : stepOf 64 gathering empty (packetWith 0x00 1 7) .said ≡ refused 20
+  pub first-taken : isFree (slotAt (stepOf 64 0 card empty (packetWith 0x80 1 7) .receiver .slots) 0) ≡ false
+  pub first-laid : getD (stepOf 64 0 card empty (packetWith 0x80 1 7) .memory) 0 0 ≡ 7
+  pub second-laid : getD (stepOf 64 0 gathering empty (packetWith 0x50 1 7) .memory) 1 0 ≡ 7
+  pub held-one : stepOf 64 0 card empty (packetWith 0x80 1 7) .said ≡ held 0 1 false
+  pub held-two : stepOf 64 0 card empty (packetWith 0x80 2 7) .said ≡ held 0 2 false
+  pub no-memory : stepOf 64 0 card [] literalPacket .said ≡ refused 2
+  pub not-ours : stepOf 64 0 stranger empty literalPacket .said ≡ refused 16
+  pub not-next : stepOf 64 0 gathering empty (packetWith 0x00 1 7) .said ≡ refused 20
   pub one-packet : Starts 64 (card .setup) literalPacket
   pub room : slotFor (card .slots) (keyOf literalPacket) ≡ 0
   pub right : rightState 64 card ≡ true
   pub right-gathering : rightState 64 gathering ≡ true
+  pub right-crowded : rightState 64 crowded ≡ true
+  pub room-then : slotFor (expired 4294967000 crowded .slots) (keyOf literalPacket) ≡ 0
   pub begun-again : Starts 64 (gathering .setup) (packetWith 0x80 2 7)
   pub its-slot : slotAt (gathering .slots) 0 ≡ Gathering (keyOf (packetWith 0x80 2 7)) 0 1 1
   pub ended-at-once : Starts 64 (gathering .setup) (packetWith 0xC0 3 7)
   pub its-slot-then : slotAt (gathering .slots) 0 ≡ Gathering (keyOf (packetWith 0xC0 3 7)) 0 1 1
-  pub start-told : stepOf 64 card empty (packetWith 0x80 1 7) .receiver .tallies ≡ gathering .tallies
-  pub done-told : stepOf 64 card empty (packetWith 0xC0 1 7) .receiver .tallies
+  pub start-told : stepOf 64 0 card empty (packetWith 0x80 1 7) .receiver .tallies ≡ gathering .tallies
+  pub done-told : stepOf 64 0 card empty (packetWith 0xC0 1 7) .receiver .tallies
       ≡ record { gathering = 0; held = 0; offered = 1; done = 1 }
+  pub refused-in-time : stepOf 64 1000 gathering empty [] .said ≡ refused 3
+  pub kept : isFree (slotAt (stepOf 64 1000 gathering empty [] .receiver .slots) 0) ≡ false
+  pub refused-late : stepOf 64 1001 gathering empty [] .said ≡ refused 3
+  pub freed : isFree (slotAt (stepOf 64 1001 gathering empty [] .receiver .slots) 0) ≡ true
+  pub ends-in-time : runPackets 64 card empty ((7, packetWith 0x80 1 7) ∷ (1007, packetWith 0x50 1 8) ∷ []) .answers
+      ≡ rules (held 0 1 false) ∷ rules (done 0 2 false) ∷ []
+  pub ends-late : runPackets 64 card empty ((7, packetWith 0x80 1 7) ∷ (1008, packetWith 0x50 1 8) ∷ []) .answers
+      ≡ rules (held 0 1 false) ∷ rules (refused 19) ∷ []
   pub no-slot : freeRefusal 64 card 4 ≡ 1
-  pub whole : OneMessage 64 card empty (packetWith 0xBD 64 1) middles (packetWith 0x5D 2 3)
+  pub whole : OneMessage 64 crowded empty 4294967000 (packetWith 0xBD 64 1) middles 1500 (packetWith 0x5D 2 3)
 
 pub steps : Steps
-unfolding stepOf decided ruled onStart onFollow gathered
+unfolding run stepOf offeredTo expiredTo decided ruled onStart onFollow gathered
     after slotOf lowestFree firstOf headerOf keyOf sameKey rightState rightSlot rightNumbers multiple clash laid
     freeRefusal sumOf
     slotFor Middles
@@ -96,12 +114,20 @@ steps =
       room = refl;
       right = refl;
       right-gathering = refl;
+      right-crowded = refl;
+      room-then = refl;
       begun-again = record { checked = (refl, (refl, (refl, (refl, tt)))); start = refl };
       its-slot = refl;
       ended-at-once = record { checked = (refl, (refl, (refl, (refl, tt)))); start = refl };
       its-slot-then = refl;
       start-told = refl;
       done-told = refl;
+      refused-in-time = refl;
+      kept = refl;
+      refused-late = refl;
+      freed = refl;
+      ends-in-time = refl;
+      ends-late = refl;
       no-slot = refl;
       whole =
           record {
@@ -111,8 +137,9 @@ steps =
             starts = record { checked = (refl, (refl, (refl, (refl, tt)))); start = refl };
             more = refl;
             middles = (
-              inl refl,
+              (lit≤ tt, inl refl),
               (
+                lit≤ tt,
                 record {
                   checked = (refl, (refl, (refl, (refl, tt))));
                   not-start = refl;
@@ -122,9 +149,10 @@ steps =
                   room = lit≤ tt;
                 },
                 refl,
-                (inr (3, lit≤ tt, refl), ((λ (e : _≡_ {A = ℕ} 3 0). omega arith), tt)),
+                ((lit≤ tt, inr (3, lit≤ tt, refl)), ((λ (e : _≡_ {A = ℕ} 3 0). omega arith), tt)),
               ),
             );
+            in-time = lit≤ tt;
             follows =
                 record {
                   checked = (refl, (refl, (refl, (refl, tt))));
@@ -134,6 +162,6 @@ steps =
                   size = refl;
                   room = lit≤ tt;
                 };
-            ends = refl;
+            last = refl;
           };
     }

@@ -12,20 +12,21 @@ use Rattle.mctp.specs.Packet.{bodyOf, endOf, sequenceOf}
 use Rattle.mctp.specs.declared.packet.Key.{Key}
 use Rattle.mctp.specs.Key.{keyOf}
 use Rattle.slots.specs.declared.state.Setup.{Setup}
-use Rattle.slots.specs.declared.state.SlotState.{SlotState}
-use Rattle.slots.specs.declared.state.SlotState.the-variants.{Free, Gathering}
+use Rattle.slots.specs.declared.state.Slot.{Slot}
+use Rattle.slots.specs.declared.state.SlotState.the-variants.{Gathering}
 use Rattle.slots.specs.declared.state.Receiver.{Receiver}
-use Rattle.slots.specs.Slots.{slotAt}
+use Rattle.slots.specs.Slots.{freeSlot, slotAt}
 use Rattle.slots.specs.State.{rightState}
 use Rattle.slots.specs.Tallies.{oneGathering, bytesHeld, nextTally}
-use Rattle.slots.specs.Changes.{fresh, withState, withOffered, withDone, withTallies, setUpOf, freeRefusal, freedOf}
+use Rattle.slots.specs.Changes.{fresh, withSlot, withOffered, withDone, withTallies, setUpOf, freeRefusal, freedOf}
 use Rattle.slots.proofs.States.{right-of, tallies-move, told-stays}
+use Rattle.slots.specs.Ages.{expired}
+use Rattle.slots.proofs.Ages.{expired-right}
 use Rattle.slots.proofs.Found.{holds-key}
 use Rattle.slots.proofs.Changes.{set-up-right, offered-right, free-right, freed-good, freed-wrong}
-use Rattle.decision.specs.Decision.{decided}
 use Rattle.receiver.specs.Effects.{Unchanged}
-use Rattle.receiver.specs.Step.{refused, Left, stepOf}
-use Rattle.receiver.proofs.Laws.{step-right, refused-uncounted}
+use Rattle.receiver.specs.Step.{refused, Left, slotIn, stepOf}
+use Rattle.receiver.proofs.Laws.{wrong-refused, step-right, refused-uncounted}
 use Rattle.messages.specs.Run.{Call, called, run, runPackets}
 use Rattle.messages.specs.Message.{Starts, slotFor}
 use Rattle.messages.specs.Tallies.{SlotsTold, Shows}
@@ -47,15 +48,15 @@ pub true-after-every-call : (r : Receiver) (m : List ℕ) (c : Call) → rightSt
     → SlotsTold (called 64 r m c .receiver)
 true-after-every-call r m c e = slots-told 64 (called 64 r m c .receiver) (called-right 64 r m c e)
 
-pub true-after-every-arrival : (r : Receiver) (m : List ℕ) (a : Arrival) → rightState 64 r ≡ true
-    → SlotsTold (arrival 64 r m a .receiver)
-true-after-every-arrival r m a e =
-    slots-told 64 (arrival 64 r m a .receiver) (arrived-right 64 r m (brings 64 a) e)
+pub true-after-every-arrival : (time : ℕ) (r : Receiver) (m : List ℕ) (a : Arrival) → rightState 64 r ≡ true
+    → SlotsTold (arrival 64 time r m a .receiver)
+true-after-every-arrival time r m a e =
+    slots-told 64 (arrival 64 time r m a .receiver) (arrived-right 64 time r m (brings 64 a) e)
 
 -- a slot set by itself, to anything that a slot can store, keeps them true; so does each of the two that count
-pub true-after-a-slot-is-set : (r : Receiver) (i : ℕ) (s : SlotState) → rightState 64 r ≡ true → bytesHeld s ≤ 65535
-    → SlotsTold (withState r i s)
-true-after-a-slot-is-set r i s e = told-stays 64 r i s (right-of 64 r e)
+pub true-after-a-slot-is-set : (r : Receiver) (i : ℕ) (x : Slot) → rightState 64 r ≡ true
+    → bytesHeld (x .state) ≤ 65535 → SlotsTold (withSlot r i x)
+true-after-a-slot-is-set r i x e = told-stays 64 r i x (right-of 64 r e)
 
 pub true-after-counting : (r : Receiver) → rightState 64 r ≡ true → SlotsTold (withOffered r) × SlotsTold (withDone r)
 true-after-counting r e = (slots-told 64 r e, slots-told 64 r e)
@@ -68,7 +69,7 @@ pub the-panel-shows-all-four : (s : Setup) (m : List ℕ) (calls : List Call)
 the-panel-shows-all-four s m calls = panel 64 s m calls refl
 
 -- so it does after every list of arrivals, of which those without a packet count nothing
-pub the-panel-shows-arrivals : (s : Setup) (m : List ℕ) (arrivals : List Arrival)
+pub the-panel-shows-arrivals : (s : Setup) (m : List ℕ) (arrivals : List (ℕ × Arrival))
     → Shows (present 64 (setUpOf s) m arrivals .receiver) (present 64 (setUpOf s) m arrivals .answers)
 the-panel-shows-arrivals s m arrivals =
     rw (from-any-state (setUpOf s) m arrivals) (the-panel-shows-all-four s m _)
@@ -83,23 +84,24 @@ they-stay-where-they-stop r m calls = (
 )
 
 -- "Demand 3's end state now includes all four."
-pub the-end-state-has-all-four : (s : Setup) (m : List ℕ) (arrivals : List Arrival)
+pub the-end-state-has-all-four : (s : Setup) (m : List ℕ) (arrivals : List (ℕ × Arrival))
     → present 64 (fresh s) m arrivals .receiver .tallies
     ≡ runPackets 64 (fresh s) m (packetsOf 64 arrivals) .receiver .tallies
 the-end-state-has-all-four s m arrivals =
     ap (λ ran. ran .receiver .tallies) (the-path-does-not-matter s m arrivals)
 
 -- "A stored state whose first two tallies are wrong is refused with 1.": by both calls, and all is unchanged
-pub wrong-tallies-are-refused : (r : Receiver) (m p : List ℕ) (i : ℕ) → (SlotsTold r → ⊥)
-    → (stepOf 64 r m p .said ≡ refused 1) × Unchanged r m (stepOf 64 r m p .receiver) (stepOf 64 r m p .memory)
+pub wrong-tallies-are-refused : (time : ℕ) (r : Receiver) (m p : List ℕ) (i : ℕ) → (SlotsTold r → ⊥)
+    → (stepOf 64 time r m p .said ≡ refused 1)
+    × Unchanged r m (stepOf 64 time r m p .receiver) (stepOf 64 time r m p .memory)
     × (freeRefusal 64 r i ≡ 1) × (freedOf 64 r i ≡ r)
-unfolding stepOf decided
-wrong-tallies-are-refused r m p i wrong =
+wrong-tallies-are-refused time r m p i wrong =
     either-way (rightState 64 r)
     (λ e. absurd (wrong (slots-told 64 r e)))
     (λ e.
-    let said : stepOf 64 r m p .said ≡ refused 1 = rw e in
-    (said, refused-uncounted 64 r m p 1 said (omega arith), freed-wrong 64 r i e .0, freed-wrong 64 r i e .1))
+    let step = wrong-refused 64 time r m p e in
+    let said = ap (λ (l : Left). l .said) step in
+    (said, refused-uncounted 64 time r m p 1 said (omega arith), freed-wrong 64 r i e .0, freed-wrong 64 r i e .1))
 
 -- any value of the last two passes
 pub any-value-of-the-last-two-passes : (r : Receiver) (packets messages : ℕ) → rightState 64 r ≡ true
@@ -121,8 +123,8 @@ pub a-slot-freed-leaves-the-tallies : (r : Receiver) (i : ℕ) (k : Key) (q u h 
     (after .tallies .gathering + 1 ≡ r .tallies .gathering) × (after .tallies .held + h ≡ r .tallies .held)
     × (after .tallies .offered ≡ r .tallies .offered) × (after .tallies .done ≡ r .tallies .done)
 a-slot-freed-leaves-the-tallies r i k q u h right low gathers =
-    let moves = tallies-move 64 r i Free (right-of 64 r right)
-    (right-of 64 (withState r i Free) (free-right 64 r i low right)) low in
+    let moves = tallies-move 64 r i freeSlot (right-of 64 r right)
+    (right-of 64 (withSlot r i freeSlot) (free-right 64 r i low right)) low in
     rw (freed-good 64 r i right low .1) (
       omega (arith, moves .0, ap oneGathering gathers),
       omega (arith, moves .1, ap bytesHeld gathers),
@@ -131,25 +133,29 @@ a-slot-freed-leaves-the-tallies r i k q u h right low gathers =
     )
 
 -- a start that drops a half-message, and isn't its end too, moves the bytes held by the difference, and is one packet
--- more
-pub a-restart-moves-by-the-difference : (r : Receiver) (m p : List ℕ) (i q u h : ℕ) → rightState 64 r ≡ true
-    → length m ≡ 4096 → Starts 64 (r .setup) p → endOf p ≡ false
-    → i < 4 → slotAt (r .slots) i ≡ Gathering (keyOf p) q u h
-    → let after = stepOf 64 r m p .receiver in
-    (after .tallies .gathering ≡ r .tallies .gathering)
-    × (after .tallies .held + h ≡ r .tallies .held + length (bodyOf p))
-    × (after .tallies .offered ≡ nextTally (r .tallies .offered)) × (after .tallies .done ≡ r .tallies .done)
-a-restart-moves-by-the-difference r m p i q u h right sized starts goes-on low gathers =
+-- more: said of the receiver whose old slots are freed
+pub a-restart-moves-by-the-difference : (time : ℕ) (r : Receiver) (m p : List ℕ) (i q u h : ℕ)
+    → rightState 64 r ≡ true → length m ≡ 4096 → Starts 64 (r .setup) p → endOf p ≡ false
+    → let before = expired time r in
+    i < 4 → slotAt (before .slots) i ≡ Gathering (keyOf p) q u h
+    → let after = stepOf 64 time r m p .receiver in
+    (after .tallies .gathering ≡ before .tallies .gathering)
+    × (after .tallies .held + h ≡ before .tallies .held + length (bodyOf p))
+    × (after .tallies .offered ≡ nextTally (before .tallies .offered)) × (after .tallies .done ≡ before .tallies .done)
+a-restart-moves-by-the-difference time r m p i q u h right sized starts goes-on low gathers =
+    let before = expired time r in
+    let right-then = expired-right time r 64 right in
     let n = length (bodyOf p) in
-    let then = Gathering (keyOf p) (sequenceOf p) n n in
-    let at : slotFor (r .slots) (keyOf p) ≡ i =
-    room-of-key 64 r (keyOf p) i right low (holds-key (keyOf p) q u h (slotAt (r .slots) i) gathers) in
-    let step : stepOf 64 r m p .receiver ≡ withState (withOffered r) i then =
-    ap (λ (l : Left). l .receiver) (start-held 64 r m p right sized starts (omega (arith, at, low)) goes-on)
-    ∙ ap (λ (j : ℕ). withState (withOffered r) j then) at in
-    let moves = tallies-move 64 (withOffered r) i then (right-of 64 (withOffered r) (offered-right 64 r right))
-    (right-of 64 (withState (withOffered r) i then)
-    (subst (λ (x : Receiver). rightState 64 x ≡ true) step (step-right 64 r m p right))) low in
+    let then = slotIn (Gathering (keyOf p) (sequenceOf p) n n) time in
+    let at : slotFor (before .slots) (keyOf p) ≡ i =
+    room-of-key 64 before (keyOf p) i right-then low (holds-key (keyOf p) q u h (slotAt (before .slots) i) gathers) in
+    let step : stepOf 64 time r m p .receiver ≡ withSlot (withOffered before) i then =
+    ap (λ (l : Left). l .receiver) (start-held 64 time r m p right sized starts (omega (arith, at, low)) goes-on)
+    ∙ ap (λ (j : ℕ). withSlot (withOffered before) j then) at in
+    let moves = tallies-move 64 (withOffered before) i then
+    (right-of 64 (withOffered before) (offered-right 64 before right-then))
+    (right-of 64 (withSlot (withOffered before) i then)
+    (subst (λ (x : Receiver). rightState 64 x ≡ true) step (step-right 64 time r m p right))) low in
     rw step (
       omega (arith, moves .0, ap oneGathering gathers),
       omega (arith, moves .1, ap bytesHeld gathers),
@@ -158,22 +164,26 @@ a-restart-moves-by-the-difference r m p i q u h right sized starts goes-on low g
     )
 
 -- one that is the end too leaves no byte of it, and is one message more
-pub a-restart-that-ends : (r : Receiver) (m p : List ℕ) (i q u h : ℕ) → rightState 64 r ≡ true
+pub a-restart-that-ends : (time : ℕ) (r : Receiver) (m p : List ℕ) (i q u h : ℕ) → rightState 64 r ≡ true
     → length m ≡ 4096 → Starts 64 (r .setup) p → endOf p ≡ true
-    → i < 4 → slotAt (r .slots) i ≡ Gathering (keyOf p) q u h
-    → let after = stepOf 64 r m p .receiver in
-    (after .tallies .gathering + 1 ≡ r .tallies .gathering) × (after .tallies .held + h ≡ r .tallies .held)
-    × (after .tallies .offered ≡ nextTally (r .tallies .offered))
-    × (after .tallies .done ≡ nextTally (r .tallies .done))
-a-restart-that-ends r m p i q u h right sized starts ends low gathers =
-    let counted = offered-right 64 r right in
-    let at : slotFor (r .slots) (keyOf p) ≡ i =
-    room-of-key 64 r (keyOf p) i right low (holds-key (keyOf p) q u h (slotAt (r .slots) i) gathers) in
-    let step : stepOf 64 r m p .receiver ≡ withDone (withState (withOffered r) i Free) =
-    ap (λ (l : Left). l .receiver) (start-done 64 r m p right sized starts (omega (arith, at, low)) ends)
-    ∙ ap (λ (j : ℕ). withDone (withState (withOffered r) j Free)) at in
-    let moves = tallies-move 64 (withOffered r) i Free (right-of 64 (withOffered r) counted)
-    (right-of 64 (withState (withOffered r) i Free) (free-right 64 (withOffered r) i low counted)) low in
+    → let before = expired time r in
+    i < 4 → slotAt (before .slots) i ≡ Gathering (keyOf p) q u h
+    → let after = stepOf 64 time r m p .receiver in
+    (after .tallies .gathering + 1 ≡ before .tallies .gathering)
+    × (after .tallies .held + h ≡ before .tallies .held)
+    × (after .tallies .offered ≡ nextTally (before .tallies .offered))
+    × (after .tallies .done ≡ nextTally (before .tallies .done))
+a-restart-that-ends time r m p i q u h right sized starts ends low gathers =
+    let before = expired time r in
+    let right-then = expired-right time r 64 right in
+    let counted = offered-right 64 before right-then in
+    let at : slotFor (before .slots) (keyOf p) ≡ i =
+    room-of-key 64 before (keyOf p) i right-then low (holds-key (keyOf p) q u h (slotAt (before .slots) i) gathers) in
+    let step : stepOf 64 time r m p .receiver ≡ withDone (withSlot (withOffered before) i freeSlot) =
+    ap (λ (l : Left). l .receiver) (start-done 64 time r m p right sized starts (omega (arith, at, low)) ends)
+    ∙ ap (λ (j : ℕ). withDone (withSlot (withOffered before) j freeSlot)) at in
+    let moves = tallies-move 64 (withOffered before) i freeSlot (right-of 64 (withOffered before) counted)
+    (right-of 64 (withSlot (withOffered before) i freeSlot) (free-right 64 (withOffered before) i low counted)) low in
     rw step (
       omega (arith, moves .0, ap oneGathering gathers),
       omega (arith, moves .1, ap bytesHeld gathers),

@@ -1,6 +1,6 @@
--- The useless builds of document 01 ("Shutting out empty work") and of document 02, #102, each shut out: a build with
--- that behaviour that meets the contract's own equation is a contradiction. A build is what a call leaves of every
--- input.
+-- The useless builds of document 01 ("Shutting out empty work") and of document 02, #102 and #106, each shut out: a
+-- build with that behaviour that meets the contract's own equation is a contradiction. A build is what a call leaves
+-- of every input.
 -- Assumes nothing.
 use mathlib.Core.Path.{_≡_, refl, ap, sym, _∙_}
 use mathlib.Core.Bool.{Bool, true, false, false≢true}
@@ -17,6 +17,7 @@ use Rattle.mmbi.specs.declared.interface.Flags.{Flags}
 use Rattle.mmbi.specs.Interface.{stateOf, mayRead}
 use Rattle.ring.specs.Layout.{wholeFor}
 use Rattle.ring.specs.Runs.{arrivalRing}
+use Rattle.slots.specs.declared.state.Slot.{Slot}
 use Rattle.slots.specs.declared.state.Tallies.{Tallies}
 use Rattle.slots.specs.declared.state.Receiver.{Receiver}
 use Rattle.slots.specs.Slots.{slotAt, isFree}
@@ -42,26 +43,26 @@ none-counted = refl
 
 one-counted : transcript.run start empty (literalFrame ∷ []) .state .packets ≡ 1
 unfolding transcript.run afterFrame oneMore
-one-counted = ap (λ (c : Brought). withPacket (arrivedOf 64 card empty c .told) 0) literal-brought
+one-counted = ap (λ (c : Brought). withPacket (arrivedOf 64 0 (start .receiver) empty c .told) 0) literal-brought
 
 -- "One that refuses everything is shut out by 3's arrival on each path with 2's reading.": a good arrival is never
 -- answered with a refusal
-module _ (build : Receiver → List ℕ → Arrival → AfterArrival)
-    (meets : (r : Receiver) (m : List ℕ) (a : Arrival) → build r m a ≡ arrival 64 r m a) where
+module _ (build : (time : ℕ) → Receiver → List ℕ → Arrival → AfterArrival)
+    (meets : (time : ℕ) (r : Receiver) (m : List ℕ) (a : Arrival) → build time r m a ≡ arrival 64 time r m a) where
   not-both : (beside : Beside) (said : rules.Said) (why : Without) → given beside said ≡ nothing why → ⊥
   not-both beside said why e = let z : _≡_ {A = ℕ} 0 1 = cc in omega arith
 
   refuser : (a : Arrival) (p : List ℕ) (beside : Beside) → brings 64 a ≡ packet p beside
-      → ((r : Receiver) (m : List ℕ) → (why : Without) × (build r m a .told ≡ nothing why)) → ⊥
+      → ((time : ℕ) (r : Receiver) (m : List ℕ) → (why : Without) × (build time r m a .told ≡ nothing why)) → ⊥
   refuser a p beside e refuses =
-      let no = refuses card empty in
-      not-both beside (rules.stepOf 64 card empty p .said) (no .0)
-      (sym (ap (λ (l : AfterArrival). l .told) (meets card empty a)
-      ∙ ap (λ (c : Brought). arrivedOf 64 card empty c .told) e)
+      let no = refuses 0 card empty in
+      not-both beside (rules.stepOf 64 0 card empty p .said) (no .0)
+      (sym (ap (λ (l : AfterArrival). l .told) (meets 0 card empty a)
+      ∙ ap (λ (c : Brought). arrivedOf 64 0 card empty c .told) e)
       ∙ no .1)
 
   abbrev Refuses : Arrival → Type 0
-  Refuses a = (r : Receiver) (m : List ℕ) → (why : Without) × (build r m a .told ≡ nothing why)
+  Refuses a = (time : ℕ) (r : Receiver) (m : List ℕ) → (why : Without) × (build time r m a .told ≡ nothing why)
 
   pub refuses-every-frame : ((frame : List ℕ) (own : ℕ) → Refuses (bySmbus frame own)) → ⊥
   refuses-every-frame all = refuser (bySmbus literalFrame 32) literalPacket _ literal-brought (all literalFrame 32)
@@ -84,90 +85,119 @@ module _ (build : Receiver → List ℕ → Arrival → AfterArrival)
       (all ring 128 0 (wholeFor 5) out)
 
 -- A build of the call that gives a packet to the message rules.
-module _ (build : Receiver → List ℕ → List ℕ → rules.Left)
-    (meets : (r : Receiver) (m p : List ℕ) → build r m p ≡ rules.stepOf 64 r m p) where
-  said : (r : Receiver) (m p : List ℕ) (s : rules.Said) → rules.stepOf 64 r m p .said ≡ s → build r m p .said ≡ s
-  said r m p s e = ap (λ (l : rules.Left). l .said) (meets r m p) ∙ e
+module _ (build : (time : ℕ) → Receiver → List ℕ → List ℕ → rules.Left)
+    (meets : (time : ℕ) (r : Receiver) (m p : List ℕ) → build time r m p ≡ rules.stepOf 64 time r m p) where
+  said : (r : Receiver) (m p : List ℕ) (s : rules.Said) → rules.stepOf 64 0 r m p .said ≡ s → build 0 r m p .said ≡ s
+  said r m p s e = ap (λ (l : rules.Left). l .said) (meets 0 r m p) ∙ e
 
   -- a start of one byte, to a receiver just set up
-  begun : build card empty (packetWith 0x80 1 7) .said ≡ rules.held 0 1 false
+  begun : build 0 card empty (packetWith 0x80 1 7) .said ≡ rules.held 0 1 false
   begun = said card empty (packetWith 0x80 1 7) (rules.held 0 1 false) (steps .held-one)
 
   -- "One that answers "done, slot 0" to all is shut out by 2's message rules.": a start without end is held
-  pub done-to-all : ((r : Receiver) (m p : List ℕ)
-      → (n : ℕ) × (again : Bool) × (build r m p .said ≡ rules.done 0 n again)) → ⊥
+  pub done-to-all : ((time : ℕ) (r : Receiver) (m p : List ℕ)
+      → (n : ℕ) × (again : Bool) × (build time r m p .said ≡ rules.done 0 n again)) → ⊥
   done-to-all all =
-      let claim = all card empty (packetWith 0x80 1 7) .2 in
+      let claim = all 0 card empty (packetWith 0x80 1 7) .2 in
       let rule = begun in
       let z : _≡_ {A = ℕ} 0 1 = cc in
       omega arith
 
   -- one whose message rules refuse every packet is shut out by them too
-  pub refuses-every-packet : ((r : Receiver) (m p : List ℕ) → (n : ℕ) × (build r m p .said ≡ rules.refused n)) → ⊥
+  pub refuses-every-packet : ((time : ℕ) (r : Receiver) (m p : List ℕ)
+      → (n : ℕ) × (build time r m p .said ≡ rules.refused n)) → ⊥
   refuses-every-packet all =
-      let claim = all card empty (packetWith 0x80 1 7) .1 in
+      let claim = all 0 card empty (packetWith 0x80 1 7) .1 in
       let rule = begun in
       let z : _≡_ {A = ℕ} 0 1 = cc in
       omega arith
 
   -- "One that leaves slots and memory as they are breaks the first start under 2."
-  pub leaves-the-slots : ((r : Receiver) (m p : List ℕ) → build r m p .receiver ≡ r) → ⊥
+  pub leaves-the-slots : ((time : ℕ) (r : Receiver) (m p : List ℕ) → build time r m p .receiver ≡ r) → ⊥
   leaves-the-slots all =
       false≢true
       (sym (steps .first-taken)
-      ∙ ap (λ (l : rules.Left). isFree (slotAt (l .receiver .slots) 0)) (sym (meets card empty (packetWith 0x80 1 7)))
-      ∙ ap (λ (r : Receiver). isFree (slotAt (r .slots) 0)) (all card empty (packetWith 0x80 1 7)))
+      ∙ ap (λ (l : rules.Left). isFree (slotAt (l .receiver .slots) 0)) (sym (meets 0 card empty (packetWith 0x80 1 7)))
+      ∙ ap (λ (r : Receiver). isFree (slotAt (r .slots) 0)) (all 0 card empty (packetWith 0x80 1 7)))
 
-  pub leaves-the-memory : ((r : Receiver) (m p : List ℕ) → build r m p .memory ≡ m) → ⊥
+  pub leaves-the-memory : ((time : ℕ) (r : Receiver) (m p : List ℕ) → build time r m p .memory ≡ m) → ⊥
   leaves-the-memory all =
       let seven : _≡_ {A = ℕ} 7 0 =
       sym (steps .first-laid)
-      ∙ ap (λ (l : rules.Left). getD (l .memory) 0 0) (sym (meets card empty (packetWith 0x80 1 7)))
-      ∙ ap (λ (m : List ℕ). getD m 0 0) (all card empty (packetWith 0x80 1 7)) in
+      ∙ ap (λ (l : rules.Left). getD (l .memory) 0 0) (sym (meets 0 card empty (packetWith 0x80 1 7)))
+      ∙ ap (λ (m : List ℕ). getD m 0 0) (all 0 card empty (packetWith 0x80 1 7)) in
       omega arith
 
   -- "One that gathers the first packet and pretends after it breaks 3 at the second, since 3 is stated over 2's rules."
-  pub pretends-after-the-first : ((r : Receiver) (m p : List ℕ) → startOf p ≡ false → build r m p .memory ≡ m) → ⊥
+  pub pretends-after-the-first : ((time : ℕ) (r : Receiver) (m p : List ℕ) → startOf p ≡ false
+      → build time r m p .memory ≡ m) → ⊥
   pretends-after-the-first all =
       let seven : _≡_ {A = ℕ} 7 0 =
       sym (steps .second-laid)
-      ∙ ap (λ (l : rules.Left). getD (l .memory) 1 0) (sym (meets gathering empty (packetWith 0x50 1 7)))
-      ∙ ap (λ (m : List ℕ). getD m 1 0) (all gathering empty (packetWith 0x50 1 7) refl) in
+      ∙ ap (λ (l : rules.Left). getD (l .memory) 1 0) (sym (meets 0 gathering empty (packetWith 0x50 1 7)))
+      ∙ ap (λ (m : List ℕ). getD m 1 0) (all 0 gathering empty (packetWith 0x50 1 7) refl) in
       omega arith
 
   -- "A made-up held .. count fails since held is the sum of the bodies"
   pub one-held-count : (n : ℕ) →
-      ((r : Receiver) (m p : List ℕ) (slot bytes : ℕ) (again : Bool) → build r m p .said ≡ rules.held slot bytes again
+      ((time : ℕ) (r : Receiver) (m p : List ℕ) (slot bytes : ℕ) (again : Bool)
+      → build time r m p .said ≡ rules.held slot bytes again
       → bytes ≡ n) → ⊥
   one-held-count n all =
-      let one = all card empty (packetWith 0x80 1 7) 0 1 false begun in
+      let one = all 0 card empty (packetWith 0x80 1 7) 0 1 false begun in
       let two =
-      all card empty (packetWith 0x80 2 7) 0 2 false
+      all 0 card empty (packetWith 0x80 2 7) 0 2 false
       (said card empty (packetWith 0x80 2 7) (rules.held 0 2 false) (steps .held-two)) in
       omega arith
 
+  -- one that frees no slot by age, and one that frees a slot whatever its age: a packet that is too short is refused,
+  -- and the slot of a start at 0 is freed at 1,001, not at 1,000
+  after-refusal : (time : ℕ) (b : Bool)
+      → isFree (slotAt (rules.stepOf 64 time gathering empty [] .receiver .slots) 0) ≡ b
+      → isFree (slotAt (build time gathering empty [] .receiver .slots) 0) ≡ b
+  after-refusal time b e =
+      ap (λ (l : rules.Left). isFree (slotAt (l .receiver .slots) 0)) (meets time gathering empty []) ∙ e
+
+  pub frees-none-by-age : ((time : ℕ) (r : Receiver) (m p : List ℕ) → build time r m p .said ≡ rules.refused 3
+      → build time r m p .receiver .slots ≡ r .slots) → ⊥
+  frees-none-by-age all =
+      let late = ap (λ (l : rules.Left). l .said) (meets 1001 gathering empty []) ∙ steps .refused-late in
+      false≢true
+      (ap (λ (l : List Slot). isFree (slotAt l 0)) (sym (all 1001 gathering empty [] late))
+      ∙ after-refusal 1001 true (steps .freed))
+
+  pub frees-at-any-age : ((time : ℕ) (r : Receiver) (m p : List ℕ) → build time r m p .said ≡ rules.refused 3
+      → isFree (slotAt (build time r m p .receiver .slots) 0) ≡ true) → ⊥
+  frees-at-any-age all =
+      let in-time = ap (λ (l : rules.Left). l .said) (meets 1000 gathering empty []) ∙ steps .refused-in-time in
+      false≢true (sym (after-refusal 1000 false (steps .kept)) ∙ all 1000 gathering empty [] in-time)
+
   -- one that leaves a tally at 0 for ever: of slots gathering, of bytes held, of packets offered or of messages done
-  told : (tally : Tallies → ℕ) (p : List ℕ) → tally (rules.stepOf 64 card empty p .receiver .tallies) ≡ 1
-      → ((r : Receiver) (m p : List ℕ) → tally (build r m p .receiver .tallies) ≡ 0) → ⊥
+  told : (tally : Tallies → ℕ) (p : List ℕ) → tally (rules.stepOf 64 0 card empty p .receiver .tallies) ≡ 1
+      → ((time : ℕ) (r : Receiver) (m p : List ℕ) → tally (build time r m p .receiver .tallies) ≡ 0) → ⊥
   told tally p one all =
-      let none = all card empty p in
-      let same = ap (λ (l : rules.Left). tally (l .receiver .tallies)) (meets card empty p) in
+      let none = all 0 card empty p in
+      let same = ap (λ (l : rules.Left). tally (l .receiver .tallies)) (meets 0 card empty p) in
       omega (arith, one, none, same)
 
-  pub no-slot-ever-gathers : ((r : Receiver) (m p : List ℕ) → build r m p .receiver .tallies .gathering ≡ 0) → ⊥
+  pub no-slot-ever-gathers : ((time : ℕ) (r : Receiver) (m p : List ℕ)
+      → build time r m p .receiver .tallies .gathering ≡ 0) → ⊥
   no-slot-ever-gathers =
       told (λ (t : Tallies). t .gathering) (packetWith 0x80 1 7)
       (ap (λ (t : Tallies). t .gathering) (steps .start-told))
 
-  pub no-byte-is-ever-held : ((r : Receiver) (m p : List ℕ) → build r m p .receiver .tallies .held ≡ 0) → ⊥
+  pub no-byte-is-ever-held : ((time : ℕ) (r : Receiver) (m p : List ℕ)
+      → build time r m p .receiver .tallies .held ≡ 0) → ⊥
   no-byte-is-ever-held =
       told (λ (t : Tallies). t .held) (packetWith 0x80 1 7) (ap (λ (t : Tallies). t .held) (steps .start-told))
 
-  pub no-packet-is-ever-offered : ((r : Receiver) (m p : List ℕ) → build r m p .receiver .tallies .offered ≡ 0) → ⊥
+  pub no-packet-is-ever-offered : ((time : ℕ) (r : Receiver) (m p : List ℕ)
+      → build time r m p .receiver .tallies .offered ≡ 0) → ⊥
   no-packet-is-ever-offered =
       told (λ (t : Tallies). t .offered) (packetWith 0x80 1 7) (ap (λ (t : Tallies). t .offered) (steps .start-told))
 
-  pub no-message-is-ever-done : ((r : Receiver) (m p : List ℕ) → build r m p .receiver .tallies .done ≡ 0) → ⊥
+  pub no-message-is-ever-done : ((time : ℕ) (r : Receiver) (m p : List ℕ)
+      → build time r m p .receiver .tallies .done ≡ 0) → ⊥
   no-message-is-ever-done =
       told (λ (t : Tallies). t .done) (packetWith 0xC0 1 7) (ap (λ (t : Tallies). t .done) (steps .done-told))
 

@@ -31,6 +31,7 @@ use Rattle.sender.specs.Cutting.{packetsIn, packetAt, cutOrder, cutRefusal}
 use Rattle.sender.specs.Sending.{ifCut, cutNumber, smbusRefusal, smbusSize, smbusWritten, pccRefusal, pccWritten}
 use Rattle.sender.specs.Sending.{ringEntered, ringWritten}
 use Rattle.sender.specs.Whole.{along, allPackets}
+use Rattle.messages.specs.Run.{atOnce}
 use Rattle.demands.specs.Presenting.{packetIn, packetsOf}
 use Rattle.demands.specs.Ways.{Way, smbusWay, pccWay, ringWay, numberEntered}
 use Rattle.demands.specs.Ways.{arrivalOf, besideOf, Goes, arrivals, wayRight}
@@ -85,21 +86,22 @@ module _ (most : ℕ) (heading : Heading) (message : List ℕ) (k : ℕ) where
 
 module _ (most : ℕ) (heading : Heading) (message : List ℕ) (ways : ℕ → Way) where
   -- the n packets from the i-th on
-  sent-from : (i n : ℕ) → ((k : ℕ) → i ≤ k → k < i + n → Goes most heading message (ways k) k)
-      → packetsOf most (along (λ (k : ℕ). arrivalOf most heading message (ways k) k) i n)
-      ≡ along (packetAt most heading message) i n
+  sent-from : (time i n : ℕ) → ((k : ℕ) → i ≤ k → k < i + n → Goes most heading message (ways k) k)
+      → packetsOf most (atOnce time (along (λ (k : ℕ). arrivalOf most heading message (ways k) k) i n))
+      ≡ atOnce time (along (packetAt most heading message) i n)
   unfolding along packetsOf
-  sent-from i zero goes = refl
-  sent-from i (suc n) goes =
+  sent-from time i zero goes = refl
+  sent-from time i (suc n) goes =
       let first = sent-brings most heading message i (ways i) (goes i (omega arith) (omega arith)) in
-      let rest = sent-from (suc i) n (λ k low high. goes k (omega arith) (omega arith)) in
-      λ j. packetIn (first j) ++ rest j
+      let rest = sent-from time (suc i) n (λ k low high. goes k (omega arith) (omega arith)) in
+      λ j. packetIn time (first j) ++ rest j
 
   -- "Packet k also goes straight onto any of the three paths.": what is sent in any mix of paths brings the message's
   -- packets, in order, and nothing else
-  pub sent-packets : ((k : ℕ) → k < packetsIn most (length message) → Goes most heading message (ways k) k)
-      → packetsOf most (arrivals most heading message ways) ≡ allPackets most heading message
-  sent-packets goes = sent-from 0 (packetsIn most (length message)) (λ k low high. goes k (omega arith))
+  pub sent-packets : (time : ℕ) → ((k : ℕ) → k < packetsIn most (length message) → Goes most heading message (ways k) k)
+      → packetsOf most (atOnce time (arrivals most heading message ways))
+      ≡ atOnce time (allPackets most heading message)
+  sent-packets time goes = sent-from time 0 (packetsIn most (length message)) (λ k low high. goes k (omega arith))
 
 -- a packet of the base has 5 to 68 bytes
 packet-sized : (heading : Heading) (message : List ℕ) (k : ℕ) → cutRefusal 64 heading (length message) k ≡ 0
