@@ -61,7 +61,7 @@ static void line(uint64_t number, struct answer a)
 int main(void)
 {
     static uint8_t memory[4096];
-    struct receiver r = {.own = 9};
+    struct receiver r = {.own = 9, .limit = 60000};
     uint64_t arrivals = 0, packets = 0;
     size_t held = 0;
     for (;;) {
@@ -72,7 +72,7 @@ int main(void)
         size_t at = 0;
         while (at < held && input[at] <= held - at - 1) {
             int found = 0;
-            struct answer a = arrive(&r, memory, sizeof memory, input + at + 1, input[at], 0x20, &found);
+            struct answer a = arrive(&r, memory, sizeof memory, input + at + 1, input[at], 0x20, 0, &found);
             packets += (uint64_t)found;
             line(++arrivals, a);
             at += 1 + (size_t)input[at];

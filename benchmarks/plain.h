@@ -19,11 +19,12 @@ struct slot {
     int gathering;
     struct key key;
     uint8_t sequence;
-    uint32_t unit, held;
+    uint32_t unit, held, since;
 };
 
 struct receiver {
     uint8_t own;
+    uint32_t limit;
     struct slot slots[4];
     uint32_t gathering, held, offered, done;
 };
@@ -87,7 +88,7 @@ static int slot_right(const struct receiver *r, const struct slot *s)
 
 static int state_right(const struct receiver *r)
 {
-    if ((r->own >= 1 && r->own <= 7) || r->own == 255)
+    if ((r->own >= 1 && r->own <= 7) || r->own == 255 || r->limit < 1 || r->limit > 60000)
         return 0;
     uint32_t gathering = 0, held = 0;
     for (int i = 0; i < 4; i++) {
@@ -129,7 +130,16 @@ static void release(struct receiver *r, struct slot *s)
     r->held -= s->held;
 }
 
-static struct answer put(struct receiver *r, uint8_t *memory, unsigned i, struct key key, const uint8_t *p, size_t body, uint32_t before, uint32_t unit, int again)
+/* every slot that is older than the limit becomes free */
+static void expire(struct receiver *r, uint32_t time)
+{
+    for (int i = 0; i < 4; i++)
+        if (r->slots[i].gathering && time - r->slots[i].since > r->limit)
+            release(r, &r->slots[i]);
+}
+
+static struct answer put(struct receiver *r, uint8_t *memory, unsigned i, struct key key, const uint8_t *p, size_t body, uint32_t before, uint32_t unit, int again,
+                         uint32_t time)
 {
     struct slot *s = &r->slots[i];
     memcpy(memory + i * 1024 + before, p + 4, body);
@@ -139,18 +149,19 @@ static struct answer put(struct receiver *r, uint8_t *memory, unsigned i, struct
         count(&r->done);
         return (struct answer){DONE, i, held, again};
     }
-    *s = (struct slot){1, key, (p[3] >> 4) & 3, unit, held};
+    *s = (struct slot){1, key, (p[3] >> 4) & 3, unit, held, time};
     r->gathering++;
     r->held += held;
     return (struct answer){HELD, i, held, again};
 }
 
-static struct answer give(struct receiver *r, uint8_t *memory, size_t size, const uint8_t *p, size_t n)
+static struct answer give(struct receiver *r, uint8_t *memory, size_t size, const uint8_t *p, size_t n, uint32_t time)
 {
     if (!state_right(r))
         return refused(1);
     if (size != 4096)
         return refused(2);
+    expire(r, time);
     count(&r->offered);
     if (n < 5 || n > 68)
         return refused(3);
@@ -172,7 +183,7 @@ static struct answer give(struct receiver *r, uint8_t *memory, size_t size, cons
             }
         if (i == 4)
             return refused(18);
-        return put(r, memory, i, key, p, body, 0, (uint32_t)body, again);
+        return put(r, memory, i, key, p, body, 0, (uint32_t)body, again, time);
     }
     if (i == 4)
         return refused(19);
@@ -188,14 +199,14 @@ static struct answer give(struct receiver *r, uint8_t *memory, size_t size, cons
         release(r, s);
         return refused(number);
     }
-    return put(r, memory, i, key, p, body, s->held, s->unit, 0);
+    return put(r, memory, i, key, p, body, s->held, s->unit, 0, time);
 }
 
-static struct answer arrive(struct receiver *r, uint8_t *memory, size_t size, const uint8_t *frame, size_t n, uint8_t own, int *found)
+static struct answer arrive(struct receiver *r, uint8_t *memory, size_t size, const uint8_t *frame, size_t n, uint8_t own, uint32_t time, int *found)
 {
     unsigned number = frame_refusal(frame, n, own);
     *found = number == 0;
     if (number)
         return refused(number);
-    return give(r, memory, size, frame + 4, n - 5);
+    return give(r, memory, size, frame + 4, n - 5, time);
 }
