@@ -35,7 +35,7 @@ use Rattle.slots.proofs.Found.{holds-key, lowest-found}
 use Rattle.decision.specs.Checks.{packetOrder, sourceOrder}
 use Rattle.receiver.specs.Effects.{BegunAnew}
 use Rattle.receiver.specs.Step.{refused, held, done, offeredTo, stepOf}
-use Rattle.receiver.proofs.Laws.{step-offered, wrong-refused, step-right, step-size}
+use Rattle.receiver.proofs.Laws.{step-is-offered, wrong-refused, step-right, step-size}
 use Rattle.receiver.proofs.Young.{step-young, then-none-expired}
 use Rattle.receiver.proofs.Gone.{gone}
 use Rattle.messages.specs.Message.{Young, Starts}
@@ -54,7 +54,7 @@ use Rattle.transcript.specs.Taking as transcript
 -- packet's answer.": past those two, the packet is offered to the receiver without its old slots
 pub old-slots-are-freed-first : (time : ℕ) (r : Receiver) (m p : List ℕ) → rightState 64 r ≡ true → length m ≡ 4096
     → stepOf 64 time r m p ≡ offeredTo 64 time (expired time r) m p
-old-slots-are-freed-first = step-offered 64
+old-slots-are-freed-first = step-is-offered 64
 
 -- which are those, and no other: each slot is freed exactly if it is too old at the call's count, and else stays as
 -- it is

@@ -42,7 +42,7 @@ use Rattle.decision.proofs.Passed.{aged-expired}
 use Rattle.decision.proofs.Decided.{every-decision}
 use Rattle.receiver.specs.Step.{refused, held, done, Left, slotIn, carriedOut, afterOffer, offeredTo, stepOf}
 use Rattle.receiver.proofs.Offered.{offer-slots, put-fields}
-use Rattle.receiver.proofs.Laws.{step-offered, step-right, step-size, refused-keeps}
+use Rattle.receiver.proofs.Laws.{step-is-offered, step-right, step-size, refused-keeps}
 use Rattle.messages.specs.Run.{Call, give, free, message, called}
 use Rattle.messages.specs.Message.{Starts, Follows, Young, Harmless, slotFor}
 use Rattle.messages.proofs.Runs.{freed-others, called-right, called-size, slot-apart}
@@ -160,7 +160,7 @@ module _ (most time : ℕ) (r : Receiver) (m : List ℕ) (k : Key) (i since last
   middle-step e =
       let then = after-middle p unit total e
       ∙ ap (λ (j : Key). Gathering j (sequenceOf p) unit total) (F .key) in
-      step-offered most time r m p (G .right) (G .memory)
+      step-is-offered most time r m p (G .right) (G .memory)
       ∙ ap (λ (d : Decision). carriedOut time (afterOffer q d) m p d) (appended ∙ ap (put i (length sofar) false) then)
 
   -- an end: done, with their total, and the slot is free
@@ -172,7 +172,7 @@ module _ (most time : ℕ) (r : Receiver) (m : List ℕ) (k : Key) (i since last
       }
   unfolding offeredTo
   end-step e =
-      step-offered most time r m p (G .right) (G .memory)
+      step-is-offered most time r m p (G .right) (G .memory)
       ∙ ap (λ (d : Decision). carriedOut time (afterOffer q d) m p d)
       (appended ∙ ap (put i (length sofar) false) (after-end p unit total e))
 
@@ -266,7 +266,7 @@ module _ (most : ℕ) (r : Receiver) (m : List ℕ) (k : Key) (i since last unit
           → Stays i (length sofar) r m (stepOf most time r m p .receiver) (stepOf most time r m p .memory)
       other-key o =
           let there = other-stays most time (expired time r) m k i since last unit sofar on p o in
-          rw (step-offered most time r m p (G .right) (G .memory)) (there .0 ∙ same, there .1)
+          rw (step-is-offered most time r m p (G .right) (G .memory)) (there .0 ∙ same, there .1)
 
       early-refused : ((n : ℕ) × (n ≤ 19) × (stepOf most time r m p .said ≡ refused n))
           → Stays i (length sofar) r m (stepOf most time r m p .receiver) (stepOf most time r m p .memory)
@@ -355,7 +355,7 @@ module _ (most time : ℕ) (r : Receiver) (m p : List ℕ) (right : rightState m
       }
   unfolding offeredTo
   start-held e =
-      step-offered most time r m p right size
+      step-is-offered most time r m p right size
       ∙ ap (λ (d : Decision). carriedOut time (afterOffer clear d) m p d)
       (begun ∙ ap (put i 0 again) (after-middle p n n e))
       ∙ ap (λ (bytes : ℕ). record {
@@ -372,7 +372,7 @@ module _ (most time : ℕ) (r : Receiver) (m p : List ℕ) (right : rightState m
       }
   unfolding offeredTo
   start-done e =
-      step-offered most time r m p right size
+      step-is-offered most time r m p right size
       ∙ ap (λ (d : Decision). carriedOut time (afterOffer clear d) m p d)
       (begun ∙ ap (put i 0 again) (after-end p n n e))
       ∙ ap (λ (bytes : ℕ). record {

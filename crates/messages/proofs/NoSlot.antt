@@ -28,7 +28,7 @@ use Rattle.decision.specs.Rules.{Decision, refuse, follow, onFollow}
 use Rattle.decision.specs.Decision.{decided}
 use Rattle.decision.proofs.Ruled.{ruled-follow}
 use Rattle.receiver.specs.Step.{refused, held, done, Left, carriedOut, afterOffer, offeredTo, stepOf}
-use Rattle.receiver.proofs.Laws.{step-offered}
+use Rattle.receiver.proofs.Laws.{step-is-offered}
 use Rattle.messages.specs.Message.{Starts, slotFor}
 use Rattle.messages.proofs.Gathering.{decided-rules, checked-then, start-held, start-done}
 
@@ -76,5 +76,5 @@ module _ (most time : ℕ) (r : Receiver) (m p : List ℕ) (right : rightState m
       decided-rules most clear (length m) p right-then size (checked-then most time r p checked)
       ∙ ruled-follow (clear .slots) (headerOf p) (length (bodyOf p)) e
       ∙ ap (λ (s : SlotState). follow (slotOf (clear .slots) (keyOf p)) s (headerOf p) (length (bodyOf p))) free in
-      ap (λ (l : Left). l .said) (step-offered most time r m p right size)
+      ap (λ (l : Left). l .said) (step-is-offered most time r m p right size)
       ∙ ap (λ (d : Decision). carriedOut time (afterOffer clear d) m p d .said) decision

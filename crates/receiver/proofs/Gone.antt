@@ -33,7 +33,7 @@ use Rattle.decision.proofs.Passed.{aged-expired, every-passed}
 use Rattle.receiver.specs.Effects.{BegunAnew}
 use Rattle.receiver.specs.Step.{slotIn, afterPut, carriedOut, afterOffer, offeredTo, stepOf}
 use Rattle.receiver.proofs.Offered.{offer-slots, put-fields}
-use Rattle.receiver.proofs.Laws.{step-offered}
+use Rattle.receiver.proofs.Laws.{step-is-offered}
 
 -- what a packet leaves in a slot has the packet's key, or none
 after-key : (k : Key) (p : List ℕ) (unit n : ℕ) → hasKey k (after (headerOf p) unit n) ≡ true
@@ -94,7 +94,7 @@ module _ (most time : ℕ) (r : Receiver) (m p : List ℕ) (right : rightState m
       → BegunAnew k p (slotAt (stepOf most time r m p .receiver .slots) j)
   unfolding offeredTo headerOf
   gone =
-      rw (step-offered most time r m p right size)
+      rw (step-is-offered most time r m p right size)
       (subst (λ (q : Receiver). P (decided most q (length m) p))
       (aged-expired most time r (length m) p right (eq-eqb (length m) 4096 size))
       (every-passed most time r (length m) p right (eq-eqb (length m) 4096 size) P

@@ -77,10 +77,10 @@ wrong-refused most time r m p e =
     ap (λ (q : Receiver). offeredTo most time q m p) same ∙ rw e
 
 -- past 1 and 2 a packet is offered to the receiver that has freed its old slots
-pub step-offered : (most time : ℕ) (r : Receiver) (m p : List ℕ) → rightState most r ≡ true → length m ≡ 4096
+pub step-is-offered : (most time : ℕ) (r : Receiver) (m p : List ℕ) → rightState most r ≡ true → length m ≡ 4096
     → stepOf most time r m p ≡ offeredTo most time (expired time r) m p
 unfolding stepOf
-step-offered most time r m p right size =
+step-is-offered most time r m p right size =
     ap (λ (q : Receiver). offeredTo most time q m p)
     (aged-expired most time r (length m) p right (eq-eqb (length m) 4096 size))
 

@@ -27,7 +27,7 @@ use Rattle.decision.specs.Rules.{Decision, refuse}
 use Rattle.decision.specs.Decision.{decided}
 use Rattle.decision.proofs.Decided.{every-decision, frees-none-bounds}
 use Rattle.receiver.specs.Effects.{Unchanged, SlotFreed}
-use Rattle.receiver.specs.Step.{refused, answerOf, afterPut, slotIn, carriedOut, offers, afterOffer, offeredTo}
+use Rattle.receiver.specs.Step.{refused, answerOf, afterPut, carriedOut, offers, afterOffer, offeredTo}
 
 -- a packet that is counted leaves set-up and slots, and a right state right
 pub offer-setup : (r : Receiver) (d : Decision) → afterOffer r d .setup ≡ r .setup
@@ -192,11 +192,3 @@ offered-one-slot most time r m p =
             bytes-behind = λ k b. laid-behind m (1024 * i + at) (bodyOf p) k (omega (arith, f .place));
           };
     })
-
--- set-up and the memory's size stay
-pub offered-setup : (most time : ℕ) (r : Receiver) (m p : List ℕ)
-    → offeredTo most time r m p .receiver .setup ≡ r .setup
-offered-setup most time r m p = offered-one-slot most time r m p .setup ∙ offer-setup r (decided most r (length m) p)
-
-pub offered-size : (most time : ℕ) (r : Receiver) (m p : List ℕ) → length (offeredTo most time r m p .memory) ≡ length m
-offered-size most time r m p = offered-one-slot most time r m p .size

@@ -22,9 +22,9 @@ use Rattle.slots.proofs.States.{right-of}
 use Rattle.slots.proofs.Ages.{age-none, none-too-old, none-expired}
 use Rattle.decision.specs.Rules.{refuse}
 use Rattle.decision.proofs.Decided.{every-decision}
-use Rattle.receiver.specs.Step.{sinceIn, slotIn, afterPut, carriedOut, afterOffer, offeredTo, stepOf}
+use Rattle.receiver.specs.Step.{sinceIn, afterPut, carriedOut, afterOffer, offeredTo, stepOf}
 use Rattle.receiver.proofs.Offered.{offer-setup, offer-slots, put-fields}
-use Rattle.receiver.proofs.Laws.{step-offered}
+use Rattle.receiver.proofs.Laws.{step-is-offered}
 
 -- no slot of this receiver is too old at this count
 abbrev pub NoneOld : (time : ℕ) → Receiver → Type 0
@@ -79,7 +79,7 @@ module _ (most time : ℕ) (r : Receiver) (m p : List ℕ) (low : time < 4294967
     (size : length m ≡ 4096) where
   pub step-young : NoneOld time (stepOf most time r m p .receiver)
   step-young =
-      rw (step-offered most time r m p right size)
+      rw (step-is-offered most time r m p right size)
       (offered-young most time (expired time r) m p low (none-too-old time r most right))
 
   -- so the next call at the same count frees none

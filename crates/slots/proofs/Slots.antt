@@ -27,12 +27,9 @@ slot-same l i x h = ap (λ (y : Slot). y .state) (getD-set-same l i x freeSlot h
 pub slot-other : (l : List Slot) (i j : ℕ) (x : Slot) → (j ≡ i → ⊥) → slotAt (set l i x) j ≡ slotAt l j
 slot-other l i j x n = ap (λ (y : Slot). y .state) (getD-set-other l i j x freeSlot n)
 
--- and their counts
+-- and the count of the one that is set
 pub since-same : (l : List Slot) (i : ℕ) (x : Slot) → i < length l → sinceAt (set l i x) i ≡ x .since
 since-same l i x h = ap (λ (y : Slot). y .since) (getD-set-same l i x freeSlot h)
-
-pub since-other : (l : List Slot) (i j : ℕ) (x : Slot) → (j ≡ i → ⊥) → sinceAt (set l i x) j ≡ sinceAt l j
-since-other l i j x n = ap (λ (y : Slot). y .since) (getD-set-other l i j x freeSlot n)
 
 -- past the last slot there is none
 pub slot-past : (l : List Slot) (i : ℕ) → length l ≤ i → slotAt l i ≡ Free
