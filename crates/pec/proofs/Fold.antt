@@ -20,9 +20,13 @@ pub poly-byte : (r : ℕ) → polyStep r < 256
 unfolding polyStep
 poly-byte r = xor-lt 8 (r * 2 % 256) (r / 128 % 2 * lowTerms) (omega arith) (omega arith)
 
+pub eight-byte : (r : ℕ) → eightSteps r < 256
+unfolding eightSteps
+eight-byte r = poly-byte _
+
 pub byte-byte : (r b : ℕ) → byteStep r b < 256
-unfolding byteStep eightSteps
-byte-byte r b = poly-byte _
+unfolding byteStep
+byte-byte r b = eight-byte _
 
 from-byte : (r : ℕ) (s : List ℕ) → r < 256 → pecFrom r s < 256
 unfolding pecFrom

@@ -4,6 +4,7 @@ pub mod Checks
 pub mod Counts
 pub mod Determined
 pub mod Fold
+pub mod Linear
 pub mod Neighbours
 pub mod Odd
 pub mod Parity
@@ -13,4 +14,5 @@ pub mod Tests
 pub mod Vectors
 pub mod Window
 pub mod WireBits
+pub mod Words
 pub mod Xor

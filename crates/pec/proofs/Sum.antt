@@ -10,6 +10,7 @@ use lib.Dec.{lit<}
 use lib.ListN.{length, getD}
 use Rattle.octets.specs.Bytes.{Below}
 use Rattle.pec.specs.Remainder.{lowTerms, polyStep, eightSteps, byteStep, pecFrom, pecOf}
+use Rattle.pec.proofs.Linear.{Linear, after}
 use Rattle.pec.proofs.Xor.{xor-swap, xor-up, xor-bit}
 
 -- As far as both lists go.
@@ -17,13 +18,6 @@ unfoldable pub plus : List ℕ → List ℕ → List ℕ
 plus [] t = []
 plus (a ∷ s) [] = []
 plus (a ∷ s) (b ∷ t) = bitXor a b ∷ plus s t
-
--- It takes sums to sums.
-abbrev Linear : (ℕ → ℕ) → Type 0
-Linear f = (a b : ℕ) → f (bitXor a b) ≡ bitXor (f a) (f b)
-
-twice : (f : ℕ → ℕ) → Linear f → Linear (λ r. f (f r))
-twice f h a b = ap f (h a b) ∙ h (f a) (f b)
 
 terms-plus : (x y : ℕ) → x < 2 → y < 2 → bitXor x y * lowTerms ≡ bitXor (x * lowTerms) (y * lowTerms)
 terms-plus zero y hx hy = refl
@@ -43,9 +37,10 @@ poly-plus a b =
 pub eight-plus : (a b : ℕ) → eightSteps (bitXor a b) ≡ bitXor (eightSteps a) (eightSteps b)
 unfolding eightSteps
 eight-plus =
-    let two : Linear (λ r. polyStep (polyStep r)) = twice polyStep poly-plus in
-    let four : Linear (λ r. polyStep (polyStep (polyStep (polyStep r)))) = twice (λ r. polyStep (polyStep r)) two in
-    twice (λ r. polyStep (polyStep (polyStep (polyStep r)))) four
+    let one : Linear polyStep = record { plus = poly-plus } in
+    let two = after one one in
+    let four = after two two in
+    after four four .plus
 
 -- A step that takes sums to sums does so over two lists of one length, from any two starts.
 pub fold-plus : (step : ℕ → ℕ → ℕ)
@@ -59,7 +54,7 @@ fold-plus step h (a ∷ s) [] r q e = absurd (omega arith)
 fold-plus step h (a ∷ s) (b ∷ t) r q e =
     ap (λ (x : ℕ). foldl step x (plus s t)) (h r q a b) ∙ fold-plus step h s t (step r a) (step q b) (omega arith)
 
-byte-plus : (r q a b : ℕ) → byteStep (bitXor r q) (bitXor a b) ≡ bitXor (byteStep r a) (byteStep q b)
+pub byte-plus : (r q a b : ℕ) → byteStep (bitXor r q) (bitXor a b) ≡ bitXor (byteStep r a) (byteStep q b)
 unfolding byteStep
 byte-plus r q a b = ap eightSteps (xor-swap r q a b) ∙ eight-plus (bitXor r a) (bitXor q b)
 

@@ -1,3 +1,4 @@
 pub mod Remainder
 pub mod Table
 pub mod Wire
+pub mod Words

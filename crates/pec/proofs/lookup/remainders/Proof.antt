@@ -1,8 +1,8 @@
--- `pec::remainders` meets its contract: the test of the table, computed once over the code's own array.
+-- `pec::lookup::remainders` meets its contract: the test of the table, computed once over the code's own array.
 -- Assumes nothing.
 use Rattle.pec.specs.Remainder.{polyStep, eightSteps}
-use Rattle.pec.proofs.remainders.Statement.{statement}
-use Rattle.pec.proofs.remainders.Tie as tie
+use Rattle.pec.proofs.lookup.remainders.Statement.{statement}
+use Rattle.pec.proofs.lookup.remainders.Tie as tie
 
 table-test : tie.Need-returns
 unfolding polyStep eightSteps
