@@ -6,6 +6,7 @@ use slots::Receiver;
 use slots::Slot;
 use slots::SlotState;
 ghost use mathlib.Core.Path.{_≡_};
+ghost use Rattle.slots.specs.Changes.{withSlot};
 ghost use Rattle.decision.specs.Rules.{planned};
 ghost use Rattle.receiver.specs.Step.{says, answerOf, left, afterPut, slotIn, carriedOut, offers, afterOffer};
 ghost use Rattle.receiver.specs.Step.{stepOf};
@@ -112,9 +113,23 @@ fn carry_out(receiver: Receiver, memory: &mut [u8], packet: &[u8], plan: Plan, t
             octets::lay(memory, 1024 * place + before, body);
             Given {
                 answer: answer_of(then, slot, before + body.len(), again),
-                receiver: finished(slots::with_slot(receiver, place, slot_in(then, time)), then),
+                receiver: finished(with_slot(receiver, slot, slot_in(then, time)), then),
             }
         }
+    }
+}
+
+// The receiver with this slot, as `slots::with_slot` has it, by places that the compiler knows: it then leaves the
+// other slots where they are.
+fn with_slot(receiver: Receiver, slot: u8, new: Slot) -> Receiver
+    ensures { λ r. ⌜ r ≡ withSlot receiver slot new ⌝ }
+{
+    match slot {
+        0 => slots::with_slot(receiver, 0, new),
+        1 => slots::with_slot(receiver, 1, new),
+        2 => slots::with_slot(receiver, 2, new),
+        3 => slots::with_slot(receiver, 3, new),
+        _ => slots::with_slot(receiver, slot as usize, new),
     }
 }
 

@@ -4,7 +4,8 @@ use mathlib.Core.Path.{_≡_, refl, ap, sym, _∙_}
 use mathlib.Core.Bool.{Bool, true, false, true≢false, false≢true}
 use mathlib.Core.List.{List}
 use mathlib.Core.Logic.{dite, by-cases}
-use Prim.Native.Nat.{ℕ, zero, suc, _+_, _≤_, _<_}
+use Prim.Native.Nat.{ℕ, zero, suc, _+_, _-_, _≤_, _<_}
+use native.Mathlib.Numerals.{add-one}
 use native.Mathlib.Decide.{decLt, ℕ-discrete}
 use native.Mathlib.Omega.{arith}
 use Rattle.mctp.specs.declared.packet.Key.{Key}
@@ -30,6 +31,20 @@ module _ (f : SlotState → Bool) (l : List Slot) where
   first-end : (i : ℕ) → firstOf f l i zero ≡ i
   unfolding firstOf
   first-end i = refl
+
+  -- and in a loop over the slots up to n: what is left from slot i on
+  module _ (n i : ℕ) where
+    left : i < n → n - i ≡ suc (n - (i + 1))
+    left h = omega arith
+
+    pub found-here : i < n → f (slotAt l i) ≡ true → firstOf f l i (n - i) ≡ i
+    found-here h e = ap (firstOf f l i) (left h) ∙ first-here i (n - (i + 1)) e
+
+    pub looked-on : i < n → f (slotAt l i) ≡ false → firstOf f l i (n - i) ≡ firstOf f l (i + 1) (n - (i + 1))
+    looked-on h e = ap (firstOf f l i) (left h) ∙ first-on i (n - (i + 1)) e ∙ rw add-one refl
+
+    pub none-left : i ≡ n → firstOf f l i (n - i) ≡ n
+    none-left e = let none : n - i ≡ 0 = omega arith in ap (firstOf f l i) none ∙ first-end i ∙ e
 
   -- it stops within the slots looked through, at one that passes, and passes over none that does
   pub record First (i n k : ℕ) : Type 0 where

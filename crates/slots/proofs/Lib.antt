@@ -3,6 +3,7 @@ pub mod Numbers
 pub mod Tallies
 pub mod States
 pub mod Found
+pub mod Gathering
 pub mod Changes
 pub mod Ages
 pub mod Determined

@@ -44,7 +44,3 @@ slotOf slots k = firstOf (hasKey k) slots 0 4
 -- "the lowest free slot" of n slots from slot i on
 unfoldable pub lowestFree : List Slot → (i n : ℕ) → ℕ
 lowestFree slots i n = firstOf isFree slots i n
-
--- the first of four tests that holds, 4 where none does
-abbrev pub firstTrue : (a b c d : Bool) → ℕ
-firstTrue a b c d = pick a 0 (pick b 1 (pick c 2 (pick d 3 4)))

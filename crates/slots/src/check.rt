@@ -7,6 +7,7 @@ use crate::tally;
 use mctp::Eid;
 use mctp::Key;
 ghost use mathlib.Core.Path.{_≡_};
+ghost use mathlib.Core.Bool.{_&&_};
 ghost use Rattle.slots.specs.Setup.{rightSetup, oursOf};
 ghost use Rattle.slots.specs.Slots.{hasKey};
 ghost use Rattle.slots.specs.State.{multiple, rightNumbers, rightSlot, clash, fourRight, fourApart, rightState};
@@ -30,8 +31,7 @@ pub fn right_within(most: usize, receiver: Receiver) -> bool
     let d = slots[3];
     mctp::body_right(most)
         & setup_right(setup)
-        & four_right(most, setup, a, b, c, d)
-        & four_apart(a, b, c, d)
+        & slots_right(most, setup, a, b, c, d)
         & tally::right_tallies(receiver.tallies, a, b, c, d)
 }
 
@@ -65,6 +65,23 @@ pub fn has_key(key: Key, slot: Slot) -> bool
             held: _,
         } => mctp::same_key(own, key),
     }
+}
+
+// Each slot right by itself, and no two with one key. Where none gathers there is nothing to ask, where one does no
+// pair.
+fn slots_right(most: usize, setup: Setup, a: Slot, b: Slot, c: Slot, d: Slot) -> bool
+    ensures { λ r. ⌜ r ≡ fourRight most setup (a .state) (b .state) (c .state) (d .state)
+        && fourApart (a .state) (b .state) (c .state) (d .state) ⌝ }
+{
+    let gathering = tally::all_gathering(a, b, c, d);
+    if gathering == 0 {
+        return true;
+    }
+    let right = four_right(most, setup, a, b, c, d);
+    if gathering == 1 {
+        return right;
+    }
+    right & four_apart(a, b, c, d)
 }
 
 fn four_right(most: usize, setup: Setup, a: Slot, b: Slot, c: Slot, d: Slot) -> bool

@@ -5,7 +5,7 @@ use crate::state::Slot;
 use crate::state::SlotState;
 use mctp::Key;
 ghost use mathlib.Core.Path.{_≡_};
-ghost use Rattle.slots.specs.Slots.{slotAt, isFree, slotOf, lowestFree, firstTrue};
+ghost use Rattle.slots.specs.Slots.{slotAt, isFree, slotOf, lowestFree};
 
 // The state of a slot; past the last one there is nothing, and it reads as free.
 pub fn state_at(receiver: Receiver, slot: usize) -> SlotState
@@ -19,30 +19,34 @@ pub fn state_at(receiver: Receiver, slot: usize) -> SlotState
     SlotState::Free
 }
 
-// The slot that gathers for this key.
+// The slot that gathers for this key; what comes behind it isn't looked at.
 pub fn slot_of(receiver: Receiver, key: Key) -> u8
     ensures { λ r. ⌜ r ≡ slotOf (receiver .slots) key ⌝ }
 {
     let slots = receiver.slots;
-    first_true(
-        has_key(key, slots[0]),
-        has_key(key, slots[1]),
-        has_key(key, slots[2]),
-        has_key(key, slots[3]),
-    )
+    let mut slot = 0;
+    while slot < 4 {
+        if has_key(key, slots[slot]) {
+            return slot as u8;
+        }
+        slot += 1;
+    }
+    4
 }
 
-// The lowest slot that is free.
+// The lowest slot that is free, likewise.
 pub fn lowest_free(receiver: Receiver) -> u8
     ensures { λ r. ⌜ r ≡ lowestFree (receiver .slots) 0 4 ⌝ }
 {
     let slots = receiver.slots;
-    first_true(
-        is_free(slots[0]),
-        is_free(slots[1]),
-        is_free(slots[2]),
-        is_free(slots[3]),
-    )
+    let mut slot = 0;
+    while slot < 4 {
+        if is_free(slots[slot]) {
+            return slot as u8;
+        }
+        slot += 1;
+    }
+    4
 }
 
 fn is_free(slot: Slot) -> bool
@@ -58,19 +62,4 @@ fn is_free(slot: Slot) -> bool
             held: _,
         } => false,
     }
-}
-
-fn first_true(a: bool, b: bool, c: bool, d: bool) -> u8
-    ensures { λ r. ⌜ r ≡ firstTrue a b c d ⌝ }
-{
-    if a {
-        return 0;
-    }
-    if b {
-        return 1;
-    }
-    if c {
-        return 2;
-    }
-    if d { 3 } else { 4 }
 }

@@ -43,9 +43,16 @@ pub fn right_tallies(tallies: Tallies, a: Slot, b: Slot, c: Slot, d: Slot) -> bo
     ensures { λ r. ⌜ r ≡ rightTallies tallies (fourSum oneGathering (a .state) (b .state) (c .state) (d .state))
         (fourSum bytesHeld (a .state) (b .state) (c .state) (d .state)) ⌝ }
 {
-    let gathering = one_gathering(a) + one_gathering(b) + one_gathering(c) + one_gathering(d);
+    let gathering = all_gathering(a, b, c, d);
     let held = bytes_held(a) + bytes_held(b) + bytes_held(c) + bytes_held(d);
     (tallies.gathering == gathering) & (tallies.held == held)
+}
+
+// How many of these four gather.
+pub fn all_gathering(a: Slot, b: Slot, c: Slot, d: Slot) -> u32
+    ensures { λ r. ⌜ r ≡ fourSum oneGathering (a .state) (b .state) (c .state) (d .state) ⌝ }
+{
+    one_gathering(a) + one_gathering(b) + one_gathering(c) + one_gathering(d)
 }
 
 // The tallies where a slot changes: less what it added before, and more what it adds now.

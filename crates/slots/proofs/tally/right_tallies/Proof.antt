@@ -1,4 +1,4 @@
--- `slots::tally::right_tallies` meets its contract: four numbers of at most 1, and four of at most 65,535.
+-- `slots::tally::right_tallies` meets its contract: four numbers of at most 65,535.
 -- Assumes nothing.
 use borrow.Author.Needs.{needs}
 use Rattle.slots.proofs.tally.right_tallies.Statement.{statement}
@@ -7,12 +7,8 @@ use Rattle.slots.proofs.tally.right_tallies.Tie as tie
 returns : tie.Need-returns
 returns c =
     let held = c .before .before in
-    let gathering = held .before .before .before .before in
     rw (
-      gathering .before .before .before .one-gathering .ensures .0,
-      gathering .before .before .one-gathering2 .ensures .0,
-      gathering .before .one-gathering3 .ensures .0,
-      gathering .one-gathering4 .ensures .0,
+      held .before .before .before .before .all-gathering .ensures,
       held .before .before .before .bytes-held .ensures .0,
       held .before .before .bytes-held2 .ensures .0,
       held .before .bytes-held3 .ensures .0,
@@ -22,6 +18,5 @@ returns c =
 pub right-tallies-spec : {M : Type 1} → statement M
 right-tallies-spec =
     tie.close
-    (tie.spec (λ c κs. search needs) (λ c κs. search needs) (λ c. search needs) (λ c κs. search needs)
-    (λ c. search needs) (λ c κs. search needs) (λ c. search needs) (λ c κs. search needs) (λ c κs. search needs)
-    (λ c. search needs) (λ c κs. search needs) (λ c. search needs) (λ c κs. search needs) (λ c. search needs) returns)
+    (tie.spec (λ c κs. search needs) (λ c κs. search needs) (λ c κs. search needs) (λ c. search needs)
+    (λ c κs. search needs) (λ c. search needs) (λ c κs. search needs) (λ c. search needs) returns)
