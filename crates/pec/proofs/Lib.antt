@@ -8,6 +8,7 @@ pub mod Linear
 pub mod Neighbours
 pub mod Odd
 pub mod Parity
+pub mod Shifts
 pub mod Sum
 pub mod Table
 pub mod Tests

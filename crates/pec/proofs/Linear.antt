@@ -6,7 +6,7 @@ use Prim.Native.Nat.{ℕ, zero, suc, _+_, _*_, _/_, _%_, _^_, _<_}
 use native.Mathlib.Omega.{arith}
 use native.Mathlib.Nat.{mod-lt, zero-mul, one-mul}
 use native.Mathlib.Numerals.{one-add}
-use lib.Bits.{bitXor, xor-mod, xor-shr, xor-shifted}
+use lib.Bits.{bitXor, xor-mod, xor-shr, xor-self, xor-shifted}
 use lib.Dec.{T, eqb, eqb→eq}
 use lib.Pow.{pow-pos, shr-lt, split}
 use Rattle.pec.proofs.Tests.{below, both}
@@ -36,8 +36,15 @@ pub summed : {f g : ℕ → ℕ} → Linear f → Linear g → Linear (λ x. bit
 summed {f} {g} hf hg =
     record { plus = λ a b. ap₂ bitXor (hf .plus a b) (hg .plus a b) ∙ xor-swap (f a) (f b) (g a) (g b) }
 
+-- Such a map takes 0 to 0.
+at-zero : (f : ℕ → ℕ) → Linear f → f 0 ≡ 0
+at-zero f h = h .plus 0 0 ∙ xor-self (f 0)
+
 -- Two that agree on every number of one bit agree.
-module _ (f g : ℕ → ℕ) (hf : Linear f) (hg : Linear g) (none : f 0 ≡ g 0) where
+module _ (f g : ℕ → ℕ) (hf : Linear f) (hg : Linear g) where
+  none : f 0 ≡ g 0
+  none = at-zero f hf ∙ sym (at-zero g hg)
+
   on-bit : (x : ℕ) → f x ≡ g x → (b : ℕ) → b < 2 → f (b * x) ≡ g (b * x)
   on-bit x e zero h = rw zero-mul none
   on-bit x e (suc zero) h = rw one-mul e

@@ -1,9 +1,14 @@
--- Eight bytes as one word, and the remainder of a word.
+-- Bytes as one number, and the remainder of a word of eight bytes.
 -- Assumes nothing.
 use mathlib.Core.List.{List}
 use Prim.Native.Nat.{ℕ, zero, suc, _+_, _*_, _/_, _%_}
-use Rattle.octets.specs.Words.{highFirst, wordAt}
+use lib.ListN.{getD}
 use Rattle.pec.specs.Remainder.{byteStep}
+
+-- The n bytes of s from place i on as a number, the highest first.
+unfoldable pub numberAt : List ℕ → (i n : ℕ) → ℕ
+numberAt s i zero = 0
+numberAt s i (suc n) = numberAt s i n * 256 + getD s (i + n) 0
 
 -- The last n bytes of the word w come to the remainder r, the highest first.
 unfoldable pub wordFrom : (r n w : ℕ) → ℕ
@@ -13,7 +18,3 @@ wordFrom r (suc n) w = byteStep (wordFrom r n (w / 256)) (w % 256)
 -- The remainder of a word: of its eight bytes, the highest first.
 abbrev pub wordPec : ℕ → ℕ
 wordPec w = wordFrom 0 8 w
-
--- The eight bytes of s from place i on, as a word.
-abbrev pub eightAt : List ℕ → ℕ → ℕ
-eightAt s i = wordAt highFirst s i * 4294967296 + wordAt highFirst s (i + 4)

@@ -4,13 +4,20 @@ mod lookup;
 mod word;
 
 ghost use mathlib.Core.Path.{_≡_};
+ghost use mathlib.Core.List.{_++_};
 ghost use Rattle.pec.specs.Remainder.{pecOf};
 
-// The check byte of s: the remainder of all its bytes. Those that make no whole word come first: in front of them
-// nothing stands yet, so that they are a number as they are.
+// The check byte of s: the remainder of all its bytes.
 pub fn pec(s: &[u8]) -> u8
     ensures { λ r. ⌜ r ≡ pecOf (now (s .entry)) ⌝ }
 {
-    let first = s.len() % 8;
-    lookup::remainder(word::passed(word::front(s, first), s, first))
+    lookup::remainder(word::behind(0, s))
+}
+
+// The check byte of three pieces, one behind the other: who puts them together need not read what was just stored.
+pub fn pec_apart(head: &[u8], header: &[u8], body: &[u8]) -> u8
+    ensures { λ r. ⌜ r ≡ pecOf (now (head .entry) ++ now (header .entry) ++ now (body .entry)) ⌝ }
+{
+    let begun = word::behind(0, head);
+    lookup::remainder(word::behind(word::behind(begun, header), body))
 }

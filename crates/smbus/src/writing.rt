@@ -75,7 +75,8 @@ fn may_write(most: usize, room: usize, size: usize, destination: u8, source: u8)
     Outcome::Good
 }
 
-// The head, the packet in its two pieces, and the PEC of all.
+// The head, the packet in its two pieces, and the PEC of all three: of the bytes as they came, since those that were
+// just stored can't be read as words without waiting for them.
 fn fill(out: &mut [u8], header: &[u8], body: &[u8], destination: u8, source: u8)
     requires { ⌜ (destination ≤ 127) × (source ≤ 127) × (length (now header) + length (now body) ≤ 250)
         × (5 + (length (now header) + length (now body)) ≤ length (now out)) ⌝ }
@@ -83,13 +84,9 @@ fn fill(out: &mut [u8], header: &[u8], body: &[u8], destination: u8, source: u8)
         (frameOf destination source (now (header .entry) ++ now (body .entry))) ⌝ }
 {
     let size = header.len() + body.len();
-    out[0] = destination * 2;
-    out[1] = 0x0F;
-    out[2] = (1 + size) as u8;
-    out[3] = source * 2 + 1;
+    let head = [destination * 2, 0x0F, (1 + size) as u8, source * 2 + 1];
+    octets::lay(out, 0, &head);
     octets::lay(out, 4, header);
     octets::lay(out, 4 + header.len(), body);
-    let end = 4 + size;
-    let check = pec::pec(&out[0..end]);
-    out[end] = check;
+    out[4 + size] = pec::pec_apart(&head, header, body);
 }

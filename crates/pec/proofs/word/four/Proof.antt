@@ -1,14 +1,15 @@
 -- `pec::word::four` meets its contract.
 -- Assumes nothing.
 use native.Mathlib.Omega.{arith}
-use Rattle.octets.specs.Words.{wordAt}
+use native.Mathlib.Nat.{add-zero}
+use Rattle.pec.specs.Words.{numberAt}
 use borrow.Author.Needs.{needs}
 use Rattle.pec.proofs.word.four.Statement.{statement}
 use Rattle.pec.proofs.word.four.Tie as tie
 
 returns : tie.Need-returns
-unfolding wordAt
-returns c = omega arith
+unfolding numberAt
+returns c = rw (add-zero (c .before .before .before .before .before .before .before .before .before .args .i)) (omega arith)
 
 pub four-spec : {M : Type 1} → statement M
 four-spec =

@@ -1,4 +1,4 @@
--- `pec::word::passed` meets its contract. The loop's invariant: the word with the bytes that are left has the remainder
+-- `pec::word::words_behind` meets its contract. The loop's invariant: the word with the bytes that are left has the remainder
 -- of the first word with all of them.
 -- Assumes nothing.
 use mathlib.Core.Path.{_≡_, refl, sym, ap, _∙_}
@@ -11,18 +11,18 @@ use lib.Seq.{drop-length}
 use borrow.Author.Needs.{needs}
 use Rattle.octets.specs.Bytes.{Below}
 use Rattle.pec.specs.Remainder.{pecFrom}
-use Rattle.pec.specs.Words.{wordFrom, wordPec, eightAt}
-use Rattle.pec.proofs.Words.{word-comes, eight-come}
-use Rattle.pec.proofs.word.passed.Statement.{statement}
-use Rattle.pec.proofs.word.passed.Tie as tie
+use Rattle.pec.specs.Words.{wordFrom, wordPec, numberAt}
+use Rattle.pec.proofs.Words.{number-comes, number-below, bytes-come}
+use Rattle.pec.proofs.word.words_behind.Statement.{statement}
+use Rattle.pec.proofs.word.words_behind.Tie as tie
 
 abbrev Inv-loop : tie.InvT-loop
-Inv-loop w s from passed₀ i₀ passed i =
+Inv-loop w s from all₀ i₀ all i =
     (i ≤ length s) × ((length s - i) % 8 ≡ 0)
-    × (pecFrom (wordPec passed) (drop i s) ≡ pecFrom (wordPec w) (drop from s))
+    × (pecFrom (wordPec all) (drop i s) ≡ pecFrom (wordPec w) (drop from s))
 
 abbrev μ-loop : tie.MeasureT-loop
-μ-loop w s from passed₀ i₀ passed i = length s - i
+μ-loop w s from all₀ i₀ all i = length s - i
 
 -- a turn of the loop
 module _ (c : tie.After-eight Inv-loop μ-loop) where
@@ -32,15 +32,16 @@ module _ (c : tie.After-eight Inv-loop μ-loop) where
   abbrev s : List ℕ
   s = turn .before .before .args .s .now
 
-  -- The word with eight bytes more.
-  come : wordPec (bitXor (c .before .moved-on .result) (c .eight .result))
-      ≡ wordFrom (wordPec (turn .loop .passed)) 8 (eightAt s (turn .loop .i))
-  come =
-      word-comes (turn .loop .passed) (c .before .moved-on .result) (c .eight .result) (c .before .moved-on .ensures)
-      ∙ ap (wordFrom (wordPec (turn .loop .passed)) 8) (c .eight .ensures)
-
   bytes : Below 256 s
   bytes i = omega (arith, turn .before .shared-slice-known .given i)
+
+  -- The word with eight bytes more.
+  come : wordPec (bitXor (c .before .shifted-word .result) (c .eight .result))
+      ≡ wordFrom (wordPec (turn .loop .all)) 8 (numberAt s (turn .loop .i) 8)
+  come =
+      ap (λ (x : ℕ). wordPec (bitXor (c .before .shifted-word .result) x)) (c .eight .ensures)
+      ∙ number-comes 8 (turn .loop .all) (c .before .shifted-word .result) (numberAt s (turn .loop .i) 8) (omega arith)
+      (number-below s bytes (turn .loop .i) 8) (c .before .shifted-word .ensures)
 
 loop-again : tie.Need-loop-again Inv-loop μ-loop
 loop-again c =
@@ -48,7 +49,7 @@ loop-again c =
       omega arith,
       omega arith,
       ap (λ (r : ℕ). pecFrom r (drop (i + 8) (s c))) (come c)
-          ∙ sym (eight-come (s c) (wordPec (turn c .loop .passed)) i (bytes c) (omega arith)) ∙ turn c .loop .inv .2,
+          ∙ sym (bytes-come (s c) (bytes c) (wordPec (turn c .loop .all)) i 8 (omega arith)) ∙ turn c .loop .inv .2,
     )
 
 returns : tie.Need-returns Inv-loop μ-loop
@@ -56,11 +57,11 @@ unfolding pecFrom
 returns c =
     let s = c .before .before .before .args .s .now in
     let all : c .before .loop .i ≡ length s = omega arith in
-    sym (ap (pecFrom (wordPec (c .before .loop .passed))) (ap (λ (n : ℕ). drop n s) all ∙ drop-length s))
+    sym (ap (pecFrom (wordPec (c .before .loop .all))) (ap (λ (n : ℕ). drop n s) all ∙ drop-length s))
     ∙ c .before .loop .inv .2
 
-pub passed-spec : {M : Type 1} → statement M
-passed-spec =
+pub words-behind-spec : {M : Type 1} → statement M
+words-behind-spec =
     tie.close
     (tie.spec Inv-loop μ-loop (λ c. (omega arith, omega arith, refl)) (λ c κs. search needs) (λ c κs. omega arith)
     (λ c. omega arith) (λ c. omega arith) loop-again returns)
