@@ -1,5 +1,5 @@
-/* One SMBus arrival, over and over: the proved code (libinlined.a, libcalled.a) and plain C in turns. Prints nanoseconds
-   and their ratio; or, for benchmarks/instructions: arrival proved|plain inlined|called BODY FLAGS TIMES */
+/* One SMBus arrival, over and over: the proved code (libinlined.a, libcalled.a) and plain C in turns. Prints
+   nanoseconds and their ratio; or, for benchmarks/instructions: arrival proved|plain inlined|called BODY FLAGS TIMES */
 #include <stdint.h>
 #include <stdio.h>
 #include <stdlib.h>
@@ -79,7 +79,8 @@ static size_t make_frame(uint8_t *frame, unsigned body, uint8_t flags)
     return 9 + body;
 }
 
-enum { TIMES = 200000, TURNS = 15 };
+/* Many short turns: on a machine that others use too, some of them fall into a quiet moment. */
+enum { TIMES = 20000, TURNS = 200 };
 
 static double less(double a, double b) { return a < b ? a : b; }
 

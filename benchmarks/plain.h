@@ -1,4 +1,5 @@
-/* One SMBus arrival in plain C: the frame's checks, the state check, the message rules. For the comparison alone. */
+/* One SMBus arrival in plain C: the frame's checks, the state check, the message rules. For the comparison alone. The
+   PEC goes by a table, one look-up a byte, as is usual; with BY_WORDS, eight bytes at a time. */
 #include <stddef.h>
 #include <stdint.h>
 #include <string.h>
@@ -42,6 +43,8 @@ __attribute__((constructor)) static void fill_remainders(void)
     }
 }
 
+#ifndef BY_WORDS
+
 static uint8_t pec(const uint8_t *s, size_t n)
 {
     uint8_t r = 0;
@@ -49,6 +52,34 @@ static uint8_t pec(const uint8_t *s, size_t n)
         r = remainders[r ^ s[i]];
     return r;
 }
+
+#else /* eight bytes at a time, as the proved code has it */
+
+static uint64_t eight(const uint8_t *s)
+{
+    uint64_t w;
+    memcpy(&w, s, 8);
+    return __builtin_bswap64(w);
+}
+
+static uint8_t pec(const uint8_t *s, size_t n)
+{
+    uint64_t w = 0;
+    size_t i = 0;
+    for (; i < n % 8; i++)
+        w = w << 8 | s[i];
+    for (; i < n; i += 8) {
+        uint64_t over = w >> 60 ^ w >> 63;
+        w = w << 4 ^ w << 1 ^ w ^ over << 4 ^ over << 1 ^ over ^ eight(s + i);
+    }
+    uint64_t a = w >> 32, b = (uint32_t)w ^ a << 4 ^ a << 2 ^ a << 1;
+    uint64_t c = b >> 16, d = (uint16_t)b ^ c << 4 ^ c << 2 ^ c;
+    uint64_t e = d >> 16;
+    uint16_t two = (uint16_t)(d ^ e << 4 ^ e << 2 ^ e);
+    return remainders[remainders[two >> 8] ^ (two & 255)];
+}
+
+#endif
 
 static unsigned frame_refusal(const uint8_t *frame, size_t n, uint8_t own)
 {
