@@ -74,7 +74,8 @@ module _ (r m x : ℕ) where
   cut zero y h = let e : x * 256 ^ 0 + y ≡ x = omega arith in rw (e, add-zero)
   cut (suc n) y h =
       let z = x * 256 ^ suc n + y in
-      let up : x * 256 ^ suc n ≡ x * 256 ^ n * 256 = ap (λ (p : ℕ). x * p) (pow-suc 256 n) ∙ sym (mul-assoc x (256 ^ n) 256) in
+      let up : x * 256 ^ suc n ≡ x * 256 ^ n * 256 =
+      ap (λ (p : ℕ). x * p) (pow-suc 256 n) ∙ sym (mul-assoc x (256 ^ n) 256) in
       let high : z / 256 ≡ x * 256 ^ n + y / 256 = omega (arith, up) in
       let low : z % 256 ≡ y % 256 = omega (arith, up) in
       rw add-suc

@@ -1,5 +1,5 @@
-// Words of eight bytes, and other words of the same remainder. The polynomial says that x^8 is x^2 + x + 1; squared again
-// and again, x^16 is x^4 + x^2 + 1, x^32 is x^4 + x^2 + x, and x^64 is x^4 + x + 1.
+// Words of eight bytes, and other words of the same remainder. The polynomial says that x^8 is x^2 + x + 1; squared
+// again and again, x^16 is x^4 + x^2 + 1, x^32 is x^4 + x^2 + x, and x^64 is x^4 + x + 1.
 ghost use mathlib.Core.Path.{_≡_};
 ghost use Prim.Native.Nat.{_+_, _-_, _%_, _≤_, _<_};
 ghost use lib.ListN.{length, drop};

@@ -120,7 +120,7 @@ fn carry_out(receiver: Receiver, memory: &mut [u8], packet: &[u8], plan: Plan, t
 }
 
 // The receiver with this slot, as `slots::with_slot` has it, by places that the compiler knows: it then leaves the
-// other slots where they are.
+// other slots where they are. Called at a second place, it would no longer be inlined.
 fn with_slot(receiver: Receiver, slot: u8, new: Slot) -> Receiver
     ensures { λ r. ⌜ r ≡ withSlot receiver slot new ⌝ }
 {

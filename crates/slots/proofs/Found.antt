@@ -32,19 +32,28 @@ module _ (f : SlotState → Bool) (l : List Slot) where
   unfolding firstOf
   first-end i = refl
 
-  -- and in a loop over the slots up to n: what is left from slot i on
-  module _ (n i : ℕ) where
+  -- in a loop over n slots, those from slot i on have the answer
+  abbrev pub Looking : (n answer i : ℕ) → Type 0
+  Looking n answer i = (i ≤ n) × (firstOf f l i (n - i) ≡ answer)
+
+  module _ {n a i : ℕ} (looking : Looking n a i) where
     left : i < n → n - i ≡ suc (n - (i + 1))
     left h = omega arith
 
-    pub found-here : i < n → f (slotAt l i) ≡ true → firstOf f l i (n - i) ≡ i
-    found-here h e = ap (firstOf f l i) (left h) ∙ first-here i (n - (i + 1)) e
+    pub found-here : i < n → f (slotAt l i) ≡ true → i ≡ a
+    found-here h e = sym (ap (firstOf f l i) (left h) ∙ first-here i (n - (i + 1)) e) ∙ looking .1
 
-    pub looked-on : i < n → f (slotAt l i) ≡ false → firstOf f l i (n - i) ≡ firstOf f l (i + 1) (n - (i + 1))
-    looked-on h e = ap (firstOf f l i) (left h) ∙ first-on i (n - (i + 1)) e ∙ rw add-one refl
+    pub look-on : i < n → f (slotAt l i) ≡ false → Looking n a (i + 1)
+    look-on h e = (
+      omega arith,
+      sym (ap (firstOf f l i) (left h) ∙ first-on i (n - (i + 1)) e ∙ rw add-one refl) ∙ looking .1,
+    )
 
-    pub none-left : i ≡ n → firstOf f l i (n - i) ≡ n
-    none-left e = let none : n - i ≡ 0 = omega arith in ap (firstOf f l i) none ∙ first-end i ∙ e
+    pub none-left : n ≤ i → n ≡ a
+    none-left h =
+        let end : i ≡ n = omega (arith, looking .0) in
+        let none : n - i ≡ 0 = omega arith in
+        sym (ap (firstOf f l i) none ∙ first-end i ∙ end) ∙ looking .1
 
   -- it stops within the slots looked through, at one that passes, and passes over none that does
   pub record First (i n k : ℕ) : Type 0 where

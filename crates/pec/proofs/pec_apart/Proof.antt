@@ -11,7 +11,8 @@ use Rattle.pec.proofs.pec_apart.Statement.{statement}
 use Rattle.pec.proofs.pec_apart.Tie as tie
 
 -- In front of the head stands the word 0, whose remainder is 0.
-begun : (c : tie.After-behind) → wordFrom 0 8 (c .behind .result) ≡ pecOf (c .before .before .before .before .args .head .now)
+begun : (c : tie.After-behind)
+    → wordFrom 0 8 (c .behind .result) ≡ pecOf (c .before .before .before .before .args .head .now)
 unfolding wordFrom byteStep eightSteps polyStep pecOf
 begun c = c .behind .ensures
 

@@ -9,7 +9,9 @@ use Rattle.pec.proofs.word.four.Tie as tie
 
 returns : tie.Need-returns
 unfolding numberAt
-returns c = rw (add-zero (c .before .before .before .before .before .before .before .before .before .args .i)) (omega arith)
+returns c =
+    let i = c .before .before .before .before .before .before .before .before .before .args .i in
+    rw (add-zero i) (omega arith)
 
 pub four-spec : {M : Type 1} → statement M
 four-spec =

@@ -1,5 +1,5 @@
--- `pec::word::words_behind` meets its contract. The loop's invariant: the word with the bytes that are left has the remainder
--- of the first word with all of them.
+-- `pec::word::words_behind` meets its contract. The loop's invariant: the word, with the bytes that are left, has the
+-- remainder of the first word with all of them.
 -- Assumes nothing.
 use mathlib.Core.Path.{_≡_, refl, sym, ap, _∙_}
 use mathlib.Core.List.{List}

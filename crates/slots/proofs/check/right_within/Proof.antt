@@ -19,11 +19,12 @@ began c = c .before .before .before .before .before .before .before
 returns : tie.Need-returns
 unfolding rightState sumOf
 returns c =
-    let args = began (c .before .before .before) .args in
-    let r = args .receiver in
+    let start = began (c .before .before .before) in
+    let most = start .args .most in
+    let r = start .args .receiver in
     let slots = r .slots in
-    let four : length slots ≡ 4 = sym (length-map slots _) ∙ began (c .before .before .before) .good .1 .0 .1 .1 .1 .0 .1 .0 .1 in
-    let each = fourRight (args .most) (r .setup) (slotAt slots 0) (slotAt slots 1) (slotAt slots 2) (slotAt slots 3) in
+    let four : length slots ≡ 4 = sym (length-map slots _) ∙ start .good .1 .0 .1 .1 .1 .0 .1 .0 .1 in
+    let each = fourRight most (r .setup) (slotAt slots 0) (slotAt slots 1) (slotAt slots 2) (slotAt slots 3) in
     let apart = fourApart (slotAt slots 0) (slotAt slots 1) (slotAt slots 2) (slotAt slots 3) in
     rw (
       eq-eqb (length slots) 4 four,
@@ -34,7 +35,7 @@ returns c =
       c .right-tallies .ensures,
     )
     (ap (λ (t : Bool). t && rightTallies (r .tallies) (gatheringIn slots) (heldIn slots))
-    (sym (and-assoc (bodyRight (args .most) && rightSetup (r .setup)) each apart)))
+    (sym (and-assoc (bodyRight most && rightSetup (r .setup)) each apart)))
 
 pub right-within-spec : {M : Type 1} → statement M
 right-within-spec =

@@ -1,16 +1,16 @@
 -- `slots::find::lowest_free` meets its contract. The invariant: the slots that are left have the answer.
 -- Assumes nothing.
 use mathlib.Core.Path.{_≡_, refl, sym, _∙_}
-use Prim.Native.Nat.{ℕ, _-_, _≤_}
+use Prim.Native.Nat.{_-_}
 use native.Mathlib.Omega.{arith}
 use borrow.Author.Needs.{needs}
-use Rattle.slots.specs.Slots.{isFree, firstOf, lowestFree}
-use Rattle.slots.proofs.Found.{found-here, looked-on, none-left}
+use Rattle.slots.specs.Slots.{isFree, lowestFree}
+use Rattle.slots.proofs.Found.{Looking, found-here, look-on, none-left}
 use Rattle.slots.proofs.find.lowest_free.Statement.{statement}
 use Rattle.slots.proofs.find.lowest_free.Tie as tie
 
 abbrev Inv-loop : tie.InvT-loop
-Inv-loop slots slot₀ slot = (slot ≤ 4) × (firstOf isFree slots slot (4 - slot) ≡ lowestFree slots 0 4)
+Inv-loop slots slot₀ slot = Looking isFree slots 4 (lowestFree slots 0 4) slot
 
 abbrev μ-loop : tie.MeasureT-loop
 μ-loop slots slot₀ slot = 4 - slot
@@ -22,22 +22,16 @@ loop-holds c = (omega arith, refl)
 returns : tie.Need-returns Inv-loop μ-loop
 returns c =
     let l = c .before .before .before .before .loop in
-    sym (found-here isFree _ 4 (l .slot) (omega arith) (sym (c .before .is-free .ensures) ∙ c .if1 .taken)) ∙ l .inv .1
+    found-here isFree _ (l .inv) (omega arith) (sym (c .before .is-free .ensures) ∙ c .if1 .taken)
 
 loop-again : tie.Need-loop-again Inv-loop μ-loop
 loop-again c =
-    let l = c .before .before .before .before .loop in (
-      omega arith,
-      sym (looked-on isFree _ 4 (l .slot) (omega arith) (sym (c .before .is-free .ensures) ∙ c .if1 .left)) ∙ l .inv .1,
-    )
-
-returns-2 : tie.Need-returns-2 Inv-loop μ-loop
-returns-2 c =
-    let l = c .before .loop in
-    sym (none-left isFree _ 4 (l .slot) (omega arith)) ∙ l .inv .1
+    let l = c .before .before .before .before .loop in
+    look-on isFree _ (l .inv) (omega arith) (sym (c .before .is-free .ensures) ∙ c .if1 .left)
 
 pub lowest-free-spec : {M : Type 1} → statement M
 lowest-free-spec =
     tie.close
     (tie.spec Inv-loop μ-loop loop-holds (λ c. omega arith) (λ c. omega arith) (λ c κs. search needs)
-    (λ c. omega arith) returns (λ c. omega arith) (λ c. omega arith) loop-again returns-2)
+    (λ c. omega arith) returns (λ c. omega arith) (λ c. omega arith) loop-again
+    (λ c. none-left isFree _ (c .before .loop .inv) (omega arith)))
