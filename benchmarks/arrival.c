@@ -16,7 +16,8 @@ typedef void arriver(const uint8_t *frame, size_t n, uint64_t times);
 
 static uint8_t memory[4096];
 
-/* Inlined: the loop and the arrival are one function, and own address, EID and limit are constants in it. */
+/* Inlined: the loop and the arrival are one function, and own address, EID and limit are constants in it. Nobody asks
+   for the answers or the tallies; but plain C must have its receiver in memory after each turn. */
 
 extern void arrivals(const uint8_t *frame, size_t n, uint8_t *memory, size_t size, uint64_t times, uint32_t time);
 
@@ -46,10 +47,11 @@ static void proved_called(const uint8_t *frame, size_t n, uint64_t times)
 }
 
 /* noipa: gcc must take each call as one that it knows nothing of. */
-__attribute__((noipa)) static struct answer arrive_called(struct receiver *r, const uint8_t *frame, size_t n,
-                                                          uint8_t own, uint32_t time, int *found)
+__attribute__((noipa)) static struct answer arrive_called(struct receiver *r, uint8_t *lent, size_t size,
+                                                          const uint8_t *frame, size_t n, uint8_t own, uint32_t time,
+                                                          int *found)
 {
-    return arrive(r, memory, sizeof memory, frame, n, own, time, found);
+    return arrive(r, lent, size, frame, n, own, time, found);
 }
 
 static void plain_called(const uint8_t *frame, size_t n, uint64_t times)
@@ -57,7 +59,7 @@ static void plain_called(const uint8_t *frame, size_t n, uint64_t times)
     struct receiver r = {.own = 9, .limit = 1000};
     int found;
     while (times--)
-        arrive_called(&r, frame, n, 0x20, COUNT, &found);
+        arrive_called(&r, memory, sizeof memory, frame, n, 0x20, COUNT, &found);
 }
 
 static double seconds(void)

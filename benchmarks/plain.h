@@ -113,8 +113,8 @@ static int ours(const struct receiver *r, uint8_t destination)
 static int slot_right(const struct receiver *r, const struct slot *s)
 {
     return !s->gathering
-           || (ours(r, s->key.destination) && s->key.tag <= 7 && s->sequence <= 3 && s->unit >= 1 && s->unit <= 64 && s->held >= 1
-               && s->held <= 1024 && s->held % s->unit == 0);
+           || (ours(r, s->key.destination) && s->key.tag <= 7 && s->sequence <= 3 && s->unit >= 1 && s->unit <= 64
+               && s->held >= 1 && s->held <= 1024 && s->held % s->unit == 0);
 }
 
 static int state_right(const struct receiver *r)
@@ -169,8 +169,8 @@ static void expire(struct receiver *r, uint32_t time)
             release(r, &r->slots[i]);
 }
 
-static struct answer put(struct receiver *r, uint8_t *memory, unsigned i, struct key key, const uint8_t *p, size_t body, uint32_t before, uint32_t unit, int again,
-                         uint32_t time)
+static struct answer put(struct receiver *r, uint8_t *memory, unsigned i, struct key key, const uint8_t *p,
+                         size_t body, uint32_t before, uint32_t unit, int again, uint32_t time)
 {
     struct slot *s = &r->slots[i];
     memcpy(memory + i * 1024 + before, p + 4, body);
@@ -233,7 +233,8 @@ static struct answer give(struct receiver *r, uint8_t *memory, size_t size, cons
     return put(r, memory, i, key, p, body, s->held, s->unit, 0, time);
 }
 
-static struct answer arrive(struct receiver *r, uint8_t *memory, size_t size, const uint8_t *frame, size_t n, uint8_t own, uint32_t time, int *found)
+static struct answer arrive(struct receiver *r, uint8_t *memory, size_t size, const uint8_t *frame, size_t n,
+                            uint8_t own, uint32_t time, int *found)
 {
     unsigned number = frame_refusal(frame, n, own);
     *found = number == 0;

@@ -2,13 +2,10 @@
 -- Assumes nothing.
 use mathlib.Core.Path.{_≡_, refl}
 use mathlib.Core.List.{List, [], _∷_, _++_, foldl-append}
-use Prim.Native.Nat.{ℕ, _+_, _*_, _/_, _%_, _<_}
-use native.Mathlib.Numerals.{add-one}
+use Prim.Native.Nat.{ℕ, _*_, _/_, _%_, _<_}
 use native.Mathlib.Omega.{arith}
 use lib.Bits.{xor-lt}
 use lib.Dec.{lit<}
-use lib.ListN.{length, take, getD}
-use lib.Seq.{take-suc}
 use Rattle.pec.specs.Remainder.{lowTerms, polyStep, eightSteps, byteStep, pecFrom, pecOf}
 
 -- "highest bit of each byte first": bit 7 falls out and leaves the low terms, bit 0 moves up.
@@ -24,7 +21,7 @@ pub eight-byte : (r : ℕ) → eightSteps r < 256
 unfolding eightSteps
 eight-byte r = poly-byte _
 
-pub byte-byte : (r b : ℕ) → byteStep r b < 256
+byte-byte : (r b : ℕ) → byteStep r b < 256
 unfolding byteStep
 byte-byte r b = eight-byte _
 
@@ -46,7 +43,3 @@ pec-append s t = foldl-append byteStep 0 s t
 pub pec-last : (s : List ℕ) (b : ℕ) → pecOf (s ++ (b ∷ [])) ≡ byteStep (pecOf s) b
 unfolding pecFrom
 pec-last s b = pec-append s (b ∷ [])
-
--- One byte more of a list.
-pub pec-next : (s : List ℕ) (i : ℕ) → i < length s → pecOf (take (i + 1) s) ≡ byteStep (pecOf (take i s)) (getD s i 0)
-pec-next s i h = rw (add-one, take-suc s i 0) (pec-last (take i s) (getD s i 0))

@@ -12,7 +12,7 @@ use Rattle.pec.specs.Remainder.{polyStep, eightSteps, byteStep}
 use Rattle.pec.specs.Words.{wordFrom, wordPec}
 use Rattle.pec.proofs.Linear.{Linear, same, last, down, up, after, summed, agree}
 use Rattle.pec.proofs.Tests.{below}
-use Rattle.pec.proofs.Words.{word-plus, zeros-plus, in-room, number-comes, cut}
+use Rattle.pec.proofs.Words.{word-plus, zeros-plus, in-room, number-comes, in-two}
 
 -- Eight zero bytes come behind a word, as the code shifts it.
 unfoldable pub shiftedWord : ℕ → ℕ
@@ -93,10 +93,10 @@ times-right h few =
     let a : h / 2 ^ 60 ≡ 0 = omega arith in
     let b : h / 2 ^ 63 ≡ 0 = omega arith in
     let t = times h in
-    let same : shiftedWord h ≡ t =
+    let alike : shiftedWord h ≡ t =
     ap₂ (λ (x y : ℕ). let o = bitXor x y in bitXor (bitXor (bitXor t (o * 2 ^ 4 % 2 ^ 64)) (o * 2 ^ 1 % 2 ^ 64)) o) a b
     ∙ xor-zero-r (bitXor (bitXor t 0) 0) ∙ xor-zero-r (bitXor t 0) ∙ xor-zero-r t in
-    ap wordPec (sym same) ∙ shifted-word-right h (omega arith)
+    ap wordPec (sym alike) ∙ shifted-word-right h (omega arith)
 
 module _ (n w : ℕ) (few : n < 8) (h : w < 2 ^ 64) where
   -- the number that n zero bytes behind w make, its last eight bytes, and what stands above them
@@ -139,6 +139,6 @@ module _ (n w : ℕ) (few : n < 8) (h : w < 2 ^ 64) where
   shifted-right =
       number-comes 8 over (times over) low (lit≤ tt) low-below (times-right over over-few)
       ∙ ap (λ (r : ℕ). wordFrom r 8 low) (in-room n over (omega arith) over-below)
-      ∙ sym (cut 0 n over 8 low low-below)
+      ∙ sym (in-two 0 n over 8 low low-below)
       ∙ ap₂ (λ (k x : ℕ). wordFrom 0 k x) (add-comm n 8) joined
-      ∙ cut 0 8 w n 0 (rw (sym (bits-of-bytes n)) (pow-pos (8 * n)))
+      ∙ in-two 0 8 w n 0 (rw (sym (bits-of-bytes n)) (pow-pos (8 * n)))

@@ -67,12 +67,12 @@ number-comes n w v x few h e =
     word-plus .plus v x ∙ ap₂ bitXor e (in-room n x few h) ∙ sym (from-plus n (wordPec w) 0 0 x)
     ∙ ap₂ (λ (r y : ℕ). wordFrom r n y) (xor-zero-r (wordPec w)) (xor-zero-l x)
 
--- A number of bytes is cut anywhere.
+-- A number of bytes in two: the upper m come first, then the other n.
 module _ (r m x : ℕ) where
-  pub cut : (n y : ℕ) → y < 256 ^ n → wordFrom r (m + n) (x * 256 ^ n + y) ≡ wordFrom (wordFrom r m x) n y
+  pub in-two : (n y : ℕ) → y < 256 ^ n → wordFrom r (m + n) (x * 256 ^ n + y) ≡ wordFrom (wordFrom r m x) n y
   unfolding wordFrom
-  cut zero y h = let e : x * 256 ^ 0 + y ≡ x = omega arith in rw (e, add-zero)
-  cut (suc n) y h =
+  in-two zero y h = let e : x * 256 ^ 0 + y ≡ x = omega arith in rw (e, add-zero)
+  in-two (suc n) y h =
       let z = x * 256 ^ suc n + y in
       let up : x * 256 ^ suc n ≡ x * 256 ^ n * 256 =
       ap (λ (p : ℕ). x * p) (pow-suc 256 n) ∙ sym (mul-assoc x (256 ^ n) 256) in
@@ -80,7 +80,7 @@ module _ (r m x : ℕ) where
       let low : z % 256 ≡ y % 256 = omega (arith, up) in
       rw add-suc
       (ap₂ (λ (a b : ℕ). byteStep (wordFrom r (m + n) a) b) high low
-      ∙ ap (λ (q : ℕ). byteStep q (y % 256)) (cut n (y / 256) (omega (arith, h, pow-suc 256 n))))
+      ∙ ap (λ (q : ℕ). byteStep q (y % 256)) (in-two n (y / 256) (omega (arith, h, pow-suc 256 n))))
 
 module _ (s : List ℕ) (bytes : Below 256 s) where
   -- n bytes make a number of n bytes,

@@ -127,9 +127,6 @@ module _ (l : List Slot) (k : Key) where
   unfolding slotOf
   slot-of = first (hasKey k) l 0 4
 
-  pub slot-of-high : slotOf l k ≤ 4
-  slot-of-high = omega (arith, slot-of .high)
-
   pub slot-of-has : slotOf l k < 4 → hasKey k (slotAt l (slotOf l k)) ≡ true
   slot-of-has h = slot-of .passes (omega arith)
 

@@ -19,7 +19,7 @@ use Rattle.slots.specs.declared.state.SlotState.{SlotState}
 use Rattle.slots.specs.declared.state.SlotState.the-variants.{Free, Gathering}
 use Rattle.slots.specs.declared.state.Receiver.{Receiver}
 use Rattle.slots.specs.Setup.{rightSetup}
-use Rattle.slots.specs.Slots.{slotAt, hasKey}
+use Rattle.slots.specs.Slots.{slotAt}
 use Rattle.slots.specs.Tallies.{oneGathering, bytesHeld, gatheringIn, heldIn}
 use Rattle.slots.specs.State.{rightSlot, clash, rightState}
 use Rattle.slots.specs.Changes.{withSlot}
@@ -36,11 +36,6 @@ pub record Right (most : ℕ) (r : Receiver) : Type 0 where
   pub apart : (i j : ℕ) → i < 4 → j < 4 → (i ≡ j → ⊥) → clash (slotAt (r .slots) i) (slotAt (r .slots) j) ≡ false
   pub gathering : r .tallies .gathering ≡ gatheringIn (r .slots)
   pub held : r .tallies .held ≡ heldIn (r .slots)
-
--- a slot that has a key, and one that clashes, by what they hold
-pub has-key-true : (k : Key) (s : SlotState) → hasKey k s ≡ true → (q u h : ℕ) → (j : Key) → s ≡ Gathering j q u h
-    → j ≡ k
-has-key-true k s e q u h j g = same-key-true j k (ap (hasKey k) (sym g) ∙ e)
 
 same-key-sym : (j k : Key) → sameKey j k ≡ sameKey k j
 same-key-sym j k =

@@ -1,4 +1,4 @@
-// The state check: straight comparisons, one remainder for each gathering slot.
+// The state check: comparisons, and one remainder for each gathering slot; where none gathers, or one, it leaves early.
 use crate::state::Receiver;
 use crate::state::Setup;
 use crate::state::Slot;

@@ -1,6 +1,6 @@
 -- `pec::pec` meets its contract.
 -- Assumes nothing.
-use mathlib.Core.Path.{_≡_, _∙_}
+use mathlib.Core.Path.{_∙_}
 use borrow.Author.Needs.{needs}
 use Rattle.pec.specs.Remainder.{polyStep, eightSteps, byteStep, pecOf}
 use Rattle.pec.specs.Words.{wordFrom}

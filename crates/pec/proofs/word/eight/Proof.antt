@@ -1,8 +1,7 @@
 -- `pec::word::eight` meets its contract.
 -- Assumes nothing.
-use mathlib.Core.Path.{_≡_, ap₂, _∙_}
+use mathlib.Core.Path.{ap₂, _∙_}
 use Prim.Native.Nat.{ℕ, _+_, _*_}
-use native.Mathlib.Omega.{arith}
 use borrow.Author.Needs.{needs}
 use Rattle.pec.proofs.Words.{two-halves}
 use Rattle.pec.proofs.word.eight.Statement.{statement}

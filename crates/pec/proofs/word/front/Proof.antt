@@ -1,13 +1,11 @@
 -- `pec::word::front` meets its contract. The loop's invariant: the word is the number that the bytes passed make.
 -- Assumes nothing.
 use mathlib.Core.Path.{_≡_, refl, sym, ap₂, _∙_}
-use mathlib.Core.List.{List}
 use Prim.Native.Nat.{ℕ, _+_, _-_, _*_, _^_, _≤_, _<_}
 use native.Mathlib.Nat.{lt-of-lt-of-le, pow-le-pow-right, zero-add}
 use native.Mathlib.Numerals.{add-one}
 use native.Mathlib.Omega.{arith}
 use lib.Dec.{lit<}
-use lib.ListN.{getD}
 use borrow.Author.Needs.{needs}
 use Rattle.octets.specs.Bytes.{Below}
 use Rattle.pec.specs.Words.{numberAt}

@@ -1,6 +1,5 @@
 -- `receiver::giving::with_slot` meets its contract.
 -- Assumes nothing.
-use mathlib.Core.Path.{_≡_, sym, _∙_}
 use borrow.Author.Needs.{needs}
 use Rattle.receiver.proofs.giving.with_slot.Statement.{statement}
 use Rattle.receiver.proofs.giving.with_slot.Tie as tie
