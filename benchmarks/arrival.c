@@ -17,7 +17,8 @@ typedef void arriver(const uint8_t *frame, size_t n, uint64_t times);
 static uint8_t memory[4096];
 
 /* Inlined: the loop and the arrival are one function, and own address, EID and limit are constants in it. Nobody asks
-   for the answers or the tallies; but plain C must have its receiver in memory after each turn. */
+   for the answers or the tallies; but plain C must have its receiver in memory after each turn. What is the same in
+   every turn, the proved code does before its loop: the test of the size, and the loads of the PEC's table. */
 
 extern void arrivals(const uint8_t *frame, size_t n, uint8_t *memory, size_t size, uint64_t times, uint32_t time);
 
