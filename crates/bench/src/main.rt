@@ -1,4 +1,6 @@
 // The bench program: records from standard input, a line for each to standard output, and the two counts.
+#![tactic(auto)]
+
 mod sending;
 
 ghost use Rattle.std.specs.Prelude.{◌≡◌, ◌≤◌, ◌<◌, length, take, replicate};
@@ -22,7 +24,7 @@ fn main() {
 }
 
 // The state at the end, what was sent, and whether a read failed.
-#[derive(Drop)]
+#[derive(Clone, Copy)]
 struct Ended {
     state: State,
     sent: Sent,
@@ -65,7 +67,7 @@ fn run(memory: &mut [u8], input: &mut [u8], output: &mut [u8]) -> Ended
 }
 
 // The state after a turn, how many bytes are held, what was sent, whether the read failed, and whether more is to come.
-#[derive(Drop)]
+#[derive(Clone, Copy)]
 struct Turned {
     state: State,
     held: usize,
@@ -104,7 +106,7 @@ fn turn(
 }
 
 // Where the bytes in the buffer end after a read, and whether it failed.
-#[derive(Drop)]
+#[derive(Clone, Copy)]
 struct Filled {
     end: usize,
     failed: bool,
@@ -134,7 +136,7 @@ fn fill(input: &mut [u8], held: usize) -> Filled
 }
 
 // The state after some bytes, how many of them were taken, and what was sent.
-#[derive(Drop)]
+#[derive(Clone, Copy)]
 struct Drained {
     state: State,
     read: usize,

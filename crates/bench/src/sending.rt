@@ -5,7 +5,7 @@ ghost use Rattle.bench.specs.Sending.{capped, nothing_sent, Sends};
 use libc::STDOUT_FILENO;
 
 // How many bytes were handed over, and whether a write failed.
-#[derive(Drop)]
+#[derive(Clone, Copy)]
 pub struct Sent {
     bytes: u64,
     failed: bool,

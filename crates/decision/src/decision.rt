@@ -13,7 +13,7 @@ use mctp::{Outcome, Refusal};
 use slots::{Receiver, Setup};
 
 // The receiver without its old slots, and what is to be done with the packet there.
-#[derive(Drop)]
+#[derive(Clone, Copy)]
 pub struct Decided {
     pub plan: Plan,
     pub receiver: Receiver,

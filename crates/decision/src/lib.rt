@@ -1,4 +1,6 @@
 // What the message rules make of a packet: old slots freed, and the packet decided on.
+#![tactic(auto)]
+
 mod decision;
 mod rules;
 

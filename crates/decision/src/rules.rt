@@ -7,7 +7,7 @@ use mctp::{Header, Refusal};
 use slots::{Receiver, SlotState};
 
 // What is to be done with a packet.
-#[derive(Drop)]
+#[derive(Clone, Copy)]
 pub enum Plan {
     Refuse(Refusal),
     // The slot becomes free.

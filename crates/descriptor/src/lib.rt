@@ -1,4 +1,6 @@
 // The descriptor at the front of an MMBI window, read into a checked configuration.
+#![tactic(auto)]
+
 mod configuration;
 mod place;
 mod reading;

@@ -8,7 +8,7 @@ use crate::place::Place;
 use mctp::Refusal;
 
 // What reading gives: a configuration that the window can have, or the refusal.
-#[derive(Drop)]
+#[derive(Clone, Copy)]
 pub enum Configured {
     Checked(Configuration),
     Refused(Refusal),

@@ -10,7 +10,7 @@ use mctp::Refusal;
 use mmbi::{Act, Change, Flags};
 
 // Where the controller stands.
-#[derive(Drop)]
+#[derive(Clone, Copy)]
 pub enum ControllerPhase {
     // It asks for nothing.
     Running,
@@ -27,14 +27,14 @@ pub enum ControllerPhase {
 }
 
 // What a step says: which flags to change, and the phase once they are changed.
-#[derive(Drop)]
+#[derive(Clone, Copy)]
 pub struct ControllerStep {
     pub change: Change,
     pub next: ControllerPhase,
 }
 
 // A phase out of stored state: 1 for a number that is none.
-#[derive(Drop)]
+#[derive(Clone, Copy)]
 pub enum StoredControllerPhase {
     Phase(ControllerPhase),
     Refused(Refusal),
@@ -42,7 +42,7 @@ pub enum StoredControllerPhase {
 
 // The phase in which a controller starts that restarted alone: none where the flags are such as no graceful reset
 // passes.
-#[derive(Drop)]
+#[derive(Clone, Copy)]
 pub enum RestartedController {
     Phase(ControllerPhase),
     NoPhase,

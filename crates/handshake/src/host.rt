@@ -10,7 +10,7 @@ use mctp::Refusal;
 use mmbi::{Act, Change, Flags};
 
 // Where the host stands.
-#[derive(Drop)]
+#[derive(Clone, Copy)]
 pub enum HostPhase {
     // It asks for nothing.
     Running,
@@ -21,21 +21,21 @@ pub enum HostPhase {
 }
 
 // What a step says: which flags to change, and the phase once they are changed.
-#[derive(Drop)]
+#[derive(Clone, Copy)]
 pub struct HostStep {
     pub change: Change,
     pub next: HostPhase,
 }
 
 // A phase out of stored state: 1 for a number that is none.
-#[derive(Drop)]
+#[derive(Clone, Copy)]
 pub enum StoredHostPhase {
     Phase(HostPhase),
     Refused(Refusal),
 }
 
 // The phase in which a host starts that restarted alone: none where the flags are such as no graceful reset passes.
-#[derive(Drop)]
+#[derive(Clone, Copy)]
 pub enum RestartedHost {
     Phase(HostPhase),
     NoPhase,

@@ -1,4 +1,6 @@
 // The carriers' byte images, shown byte for byte and read back. All but the descriptor are written by the proved calls.
+#![tactic(auto)]
+
 mod descriptors;
 mod frames;
 mod regions;

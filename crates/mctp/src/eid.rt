@@ -2,7 +2,7 @@
 ghost use Rattle.std.specs.Prelude.{◌≡◌};
 ghost use Rattle.mctp.specs.Eid.{null_eid, broadcast_eid, reserved_eid, endpoint_eid};
 
-#[derive(Drop)]
+#[derive(Clone, Copy)]
 pub struct Eid(pub u8);
 
 impl Eid {

@@ -1,4 +1,6 @@
 // What a packet is: endpoint IDs, sizes, keys, header fields, and the refusals by name and number.
+#![tactic(auto)]
+
 mod eid;
 mod packet;
 mod refusal;

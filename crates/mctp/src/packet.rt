@@ -26,7 +26,7 @@ pub fn size_right(most: usize, size: usize) -> bool
 }
 
 // "a key (destination, source, tag owner, tag)"
-#[derive(Drop)]
+#[derive(Clone, Copy)]
 pub struct Key {
     pub destination: Eid,
     pub source: Eid,
@@ -35,7 +35,7 @@ pub struct Key {
 }
 
 // The fields of a packet's four header bytes.
-#[derive(Drop)]
+#[derive(Clone, Copy)]
 pub struct Header {
     pub version: u8,
     pub start: bool,

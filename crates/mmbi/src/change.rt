@@ -6,7 +6,7 @@ use crate::interface::Flags;
 use crate::word::Word;
 
 // What is done to the two flags of one end, UP and RST.
-#[derive(Drop)]
+#[derive(Clone, Copy)]
 pub enum Act {
     SetUp,
     ClearUp,
@@ -16,7 +16,7 @@ pub enum Act {
 }
 
 // Which end's flags are changed, and how. Both of an end's flags stand in one word, so a change is one store at most.
-#[derive(Drop)]
+#[derive(Clone, Copy)]
 pub enum Change {
     Nothing,
     Host(Act),

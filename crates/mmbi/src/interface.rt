@@ -4,7 +4,7 @@ ghost use Rattle.octets.specs.Choice.{pick};
 ghost use Rattle.mmbi.specs.Interface.{same_flags, state_of, is_transient, may_read, may_write};
 
 // B_UP, B_RST, H_UP and H_RST.
-#[derive(Drop)]
+#[derive(Clone, Copy)]
 pub struct Flags {
     pub controller_up: bool,
     pub controller_reset: bool,
@@ -72,7 +72,7 @@ impl Flags {
 }
 
 // The names of Table 5.
-#[derive(Drop)]
+#[derive(Clone, Copy)]
 pub enum InterfaceState {
     InitializationInProgress,
     InitializationCompleted,

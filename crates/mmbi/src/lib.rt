@@ -1,5 +1,7 @@
 // The MMBI interface (003): its state from four flags, flags set and cleared, the words that hold pointers and flags, a
 // ring's length and pointers.
+#![tactic(auto)]
+
 mod change;
 mod interface;
 mod pointer;

@@ -3,7 +3,7 @@ ghost use Rattle.std.specs.Prelude.{◌≡◌};
 ghost use Rattle.mmbi.specs.Pointers.{length_right, pointer_right};
 
 // A ring's pointers, in bytes from its front.
-#[derive(Drop)]
+#[derive(Clone, Copy)]
 pub struct Pointers {
     pub read: usize,
     pub write: usize,

@@ -5,7 +5,7 @@ ghost use Rattle.mmbi.specs.Words.{word_of, number_of};
 
 // The pointer is a byte offset; `bit1` is bit 1 of the word (H_UP, B_UP, or reserved), `bit0` bit 0 (H_RST, B_RST,
 // H_RDY or B_RDY).
-#[derive(Drop)]
+#[derive(Clone, Copy)]
 pub struct Word {
     pub pointer: usize,
     pub bit1: bool,

@@ -1,4 +1,6 @@
 // Document 01's numbers, run on the proved calls and told in words.
+#![tactic(auto)]
+
 mod ages;
 mod answers;
 mod frames;

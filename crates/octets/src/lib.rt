@@ -1,5 +1,7 @@
 // What every carrier needs of lists of bytes, once: a byte, a part, a word in either byte order, a copy into the
 // middle.
+#![tactic(auto)]
+
 mod copy;
 mod read;
 mod word;

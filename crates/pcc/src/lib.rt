@@ -1,4 +1,6 @@
 // The PCC carrier: a packet read as a part of a lent region, and written to a region's front.
+#![tactic(auto)]
+
 mod answer;
 mod layout;
 mod reading;

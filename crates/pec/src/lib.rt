@@ -1,5 +1,7 @@
 // The PEC of SMBus: the check byte that a frame ends with. Eight bytes are passed at a time, by shifts and sums; the
 // remainder of the word that is left is read from the table.
+#![tactic(auto)]
+
 mod lookup;
 mod word;
 

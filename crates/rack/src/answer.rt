@@ -5,7 +5,7 @@ use slots::Receiver;
 
 // What the carrier knows beside the packet: the SMBus source address, the PCC notify flag, or the ring's new read
 // pointer.
-#[derive(Drop)]
+#[derive(Clone, Copy)]
 pub enum Beside {
     Source(u8),
     Notify(bool),
@@ -13,7 +13,7 @@ pub enum Beside {
 }
 
 // Why there is no packet.
-#[derive(Drop)]
+#[derive(Clone, Copy)]
 pub enum NoPacket {
     // The ring holds nothing.
     Empty,
@@ -23,7 +23,7 @@ pub enum NoPacket {
     Refused { refusal: Refusal },
 }
 
-#[derive(Drop)]
+#[derive(Clone, Copy)]
 pub enum Arrived {
     // A packet was found, and this is what the message rules answer.
     Given { beside: Beside, answer: Answer },
@@ -31,7 +31,7 @@ pub enum Arrived {
 }
 
 // The answer, and the receiver as the call leaves it.
-#[derive(Drop)]
+#[derive(Clone, Copy)]
 pub struct Received {
     pub arrived: Arrived,
     pub receiver: Receiver,

@@ -1,4 +1,6 @@
 // Arrivals on the three paths: the carrier's checks, all of them, and then the message rules.
+#![tactic(auto)]
+
 mod answer;
 mod path;
 mod why;

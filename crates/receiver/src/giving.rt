@@ -11,7 +11,7 @@ use mctp::Refusal;
 use slots::{Receiver, Slot, SlotState};
 
 // What the message rules answer.
-#[derive(Drop)]
+#[derive(Clone, Copy)]
 pub enum Answer {
     Refused {
         refusal: Refusal,
@@ -28,7 +28,7 @@ pub enum Answer {
     },
 }
 
-#[derive(Drop)]
+#[derive(Clone, Copy)]
 pub struct Given {
     pub answer: Answer,
     pub receiver: Receiver,

@@ -1,4 +1,6 @@
 // A packet given to the message rules: the decision on it carried out.
+#![tactic(auto)]
+
 mod giving;
 
 pub use giving::{Answer, Given, give};

@@ -1,4 +1,6 @@
 // What the bench program reads and writes: records of a length byte and a frame, decimal numbers, and its lines.
+#![tactic(auto)]
+
 mod decimal;
 mod line;
 mod record;

@@ -6,7 +6,7 @@ ghost use Rattle.records.specs.Line.{named, ending, pair, line_bytes, last_line,
 use crate::decimal::{count_digits, lay_decimal};
 
 // What one record's line tells; a refusal by its number.
-#[derive(Drop)]
+#[derive(Clone, Copy)]
 pub enum Line {
     Done {
         slot: u8,

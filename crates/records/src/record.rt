@@ -2,7 +2,7 @@
 ghost use Rattle.std.specs.Prelude.{◌≡◌};
 ghost use Rattle.records.specs.Record.{record_at};
 
-#[derive(Drop)]
+#[derive(Clone, Copy)]
 pub enum Record {
     // The frame's bytes; of a length byte 0, the empty frame.
     Whole { start: usize, size: usize },

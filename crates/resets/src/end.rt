@@ -3,21 +3,21 @@ use handshake::{ControllerPhase, HostPhase, StoredControllerPhase, StoredHostPha
 use mctp::Refusal;
 use mmbi::{Change, Flags};
 
-#[derive(Drop)]
+#[derive(Clone, Copy)]
 pub enum End {
     Host(HostPhase),
     Controller(ControllerPhase),
 }
 
 // What a step says.
-#[derive(Drop)]
+#[derive(Clone, Copy)]
 pub struct Step {
     pub change: Change,
     pub next: End,
 }
 
 // What a number is answered out of stored state.
-#[derive(Drop)]
+#[derive(Clone, Copy)]
 pub enum Stored {
     Refused(Refusal),
     Phase(End),

@@ -1,4 +1,6 @@
 // The reset handshake's page: its table of phases and its traces, asked of the proved calls.
+#![tactic(auto)]
+
 mod end;
 mod names;
 mod phases;

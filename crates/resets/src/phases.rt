@@ -10,7 +10,7 @@ use mmbi::{Change, Flags};
 const PAIRS: usize = 4096;
 
 // How many pairs of a phase and a flag state there are, and in how many of them the phase waits.
-#[derive(Drop)]
+#[derive(Clone, Copy)]
 pub struct Pairs {
     pub all: usize,
     pub waiting: usize,

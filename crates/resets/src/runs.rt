@@ -8,7 +8,7 @@ use mmbi::Flags;
 const LIMIT: usize = 20;
 
 // The flags, the end whose step is next, and the other.
-#[derive(Drop)]
+#[derive(Clone, Copy)]
 pub struct Run {
     flags: Flags,
     next: End,

@@ -2,7 +2,7 @@
 use mctp::Refusal;
 
 // A ring as it was read.
-#[derive(Drop)]
+#[derive(Clone, Copy)]
 pub enum Carried {
     // Its size and the new read pointer.
     Packet { size: usize, next: usize },
@@ -14,7 +14,7 @@ pub enum Carried {
 }
 
 // A packet as it was written: the new write pointer, or the refusal.
-#[derive(Drop)]
+#[derive(Clone, Copy)]
 pub enum Written {
     Stored(usize),
     Refused(Refusal),

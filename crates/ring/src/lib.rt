@@ -1,4 +1,6 @@
 // The MMBI ring: a packet taken out, a packet put in. No pointer, length, flag or byte that is offered is believed.
+#![tactic(auto)]
+
 mod answer;
 mod number;
 mod reading;

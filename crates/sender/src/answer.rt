@@ -2,14 +2,14 @@
 use mctp::Refusal;
 
 // How many packets a message makes, or the refusal.
-#[derive(Drop)]
+#[derive(Clone, Copy)]
 pub enum Counted {
     Packets(usize),
     Refused(Refusal),
 }
 
 // A packet in an output: its size, or the refusal.
-#[derive(Drop)]
+#[derive(Clone, Copy)]
 pub enum Cut {
     Packet(usize),
     Refused(Refusal),

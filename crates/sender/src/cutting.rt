@@ -36,7 +36,7 @@ fn message_right(size: usize) -> bool
 }
 
 // Packet k before it goes anywhere: its header, and where in the message its body begins; or the refusal.
-#[derive(Drop)]
+#[derive(Clone, Copy)]
 pub enum Outline {
     There { header: Header, from: usize },
     Refused(Refusal),

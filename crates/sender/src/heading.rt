@@ -6,7 +6,7 @@ use mctp::Key;
 
 // What the headers of a message's packets are made of: the key (destination, source, tag owner, tag), and the sequence
 // number of the first packet.
-#[derive(Drop)]
+#[derive(Clone, Copy)]
 pub struct Heading {
     pub key: Key,
     pub first: u8,

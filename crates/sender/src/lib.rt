@@ -1,4 +1,6 @@
 // The sending half: a message cut into packets, each written where it is to go, with no copy in between.
+#![tactic(auto)]
+
 mod answer;
 mod cutting;
 mod heading;

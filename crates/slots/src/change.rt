@@ -8,7 +8,7 @@ use crate::{check, tally};
 use mctp::{Eid, Outcome, Refusal};
 
 // The outcome, and the receiver as the call leaves it.
-#[derive(Drop)]
+#[derive(Clone, Copy)]
 pub struct Changed {
     pub outcome: Outcome,
     pub receiver: Receiver,

@@ -1,5 +1,7 @@
 // The receiver's state: its set-up, its four slots, its tallies, what makes them right, and slots freed by a
 // call or by age.
+#![tactic(auto)]
+
 mod age;
 mod change;
 mod check;

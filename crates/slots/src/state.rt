@@ -2,7 +2,7 @@
 use mctp::{Eid, Key};
 
 // The own EID, and the age in milliseconds over which a slot is freed.
-#[derive(Drop)]
+#[derive(Clone, Copy)]
 pub struct Setup {
     pub own: Eid,
     pub limit: u32,
@@ -13,7 +13,7 @@ impl Setup {
 }
 
 // "A slot is free, or is gathering for a key with last sequence, unit and bytes held."
-#[derive(Drop)]
+#[derive(Clone, Copy)]
 pub enum SlotState {
     Free,
     Gathering {
@@ -25,7 +25,7 @@ pub enum SlotState {
 }
 
 // A slot, and the millisecond count of the last packet accepted for it; a slot that becomes free keeps 0.
-#[derive(Drop)]
+#[derive(Clone, Copy)]
 pub struct Slot {
     pub state: SlotState,
     pub since: u32,
@@ -39,7 +39,7 @@ impl Slot {
 }
 
 // What the front panel shows: slots gathering, bytes held by them, packets offered to the message rules, messages done.
-#[derive(Drop)]
+#[derive(Clone, Copy)]
 pub struct Tallies {
     pub gathering: u32,
     pub held: u32,
@@ -47,7 +47,7 @@ pub struct Tallies {
     pub done: u32,
 }
 
-#[derive(Drop)]
+#[derive(Clone, Copy)]
 pub struct Receiver {
     pub setup: Setup,
     pub slots: [Slot; 4],

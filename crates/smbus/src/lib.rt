@@ -1,4 +1,6 @@
 // The SMBus carrier: the packet found in a lent frame, and a packet written as a frame.
+#![tactic(auto)]
+
 mod answer;
 mod reading;
 mod writing;

@@ -7,7 +7,7 @@ use crate::state::State;
 use crate::{line, state};
 
 // The state after a frame, and the place behind its line.
-#[derive(Drop)]
+#[derive(Clone, Copy)]
 pub struct Framed {
     pub state: State,
     pub behind: usize,

@@ -1,4 +1,6 @@
 // The bench program's work: frames from records to lines, with the receiver and the two counts.
+#![tactic(auto)]
+
 mod frame;
 mod front;
 mod last;

@@ -17,7 +17,7 @@ pub const TIME: u32 = 0;
 
 pub const LIMIT: u32 = 60000;
 
-#[derive(Drop)]
+#[derive(Clone, Copy)]
 pub struct State {
     pub receiver: Receiver,
     pub arrivals: u64,

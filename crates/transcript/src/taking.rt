@@ -8,7 +8,7 @@ use crate::frame;
 use crate::state::State;
 
 // The state after a chunk, how many bytes of the input it took, and how many of the output it wrote.
-#[derive(Drop)]
+#[derive(Clone, Copy)]
 pub struct Taken {
     pub state: State,
     pub read: usize,

@@ -1,4 +1,6 @@
 // What lies in an MMBI window by a configuration: rings, structures, words.
+#![tactic(auto)]
+
 mod place;
 mod word;
 

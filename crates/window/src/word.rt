@@ -8,7 +8,7 @@ use descriptor::{Area, Configuration};
 use mmbi::{Act, Change, Flags, Pointers, Word};
 
 // The four pointers, by the words that hold them: H2B_WP and B2H_RP in Host_RWS, B2H_WP and H2B_RP in Host_ROS.
-#[derive(Drop)]
+#[derive(Clone, Copy)]
 pub enum Pointer {
     H2bWrite,
     B2hRead,
@@ -17,7 +17,7 @@ pub enum Pointer {
 }
 
 // Everything that the four words say.
-#[derive(Drop)]
+#[derive(Clone, Copy)]
 pub struct Interface {
     pub flags: Flags,
     pub b2h: Pointers,

@@ -8,8 +8,7 @@ use lib.ListN.{length, take, drop, length-drop, drop_of_length-le}
 use lib.Seq.{take_all, take-nil}
 use borrow.Author.Rules.{rules}
 use Rattle.octets.specs.Bytes.{part}
-use Rattle.octets.proofs.read.part.Statement.{statement}
-use Rattle.octets.proofs.read.part.Tie as tie
+use Rattle.octets.proofs.read.part.Goals as goal
 
 module _ (s : List ℕ) (at n : ℕ) where
   none : length s ≤ at → [] ≡ part s at n
@@ -24,18 +23,11 @@ module _ (s : List ℕ) (at n : ℕ) where
       let more : length (drop at s) ≤ n = simp length-drop (omega arith) in
       take_all (length s - at) (drop at s) all ∙ sym (take_all n (drop at s) more)
 
-returns : tie.Need-returns
-returns c = let a = c.before.before.args in none a.s.now a.at a.n (omega arith)
+pub returns-then-all-at : goal.returns-then-all-at
+returns-then-all-at c = let a = c.args in none a.s.now a.at a.n (omega arith)
 
-returns-2 : tie.Need-returns-2
-returns-2 c = let a = c.before.before.before.args in whole a.s.now a.at a.n
+pub returns-then-n-all : goal.returns-then-n-all
+returns-then-n-all c = let a = c.args in whole a.s.now a.at a.n
 
-returns-3 : tie.Need-returns-3
-returns-3 c = let a = c.before.before.before.args in rest a.s.now a.at a.n (omega arith)
-
-pub part-spec : {M : Type 1} → statement M
-part-spec =
-    tie.close
-    (tie.spec (λ c. search rules) (λ c. search rules) (λ c. search rules) returns (λ c. search rules)
-    (λ c. search rules) (λ c. search rules) (λ c. search rules) (λ c. search rules) returns-2 (λ c. search rules)
-    (λ c. search rules) (λ c. search rules) returns-3)
+pub returns : goal.returns
+returns c = let a = c.args in rest a.s.now a.at a.n (omega arith)

@@ -1,0 +1,9 @@
+-- `octets::word::lay_high_first` meets its contract.
+-- Assumes nothing.
+use Rattle.octets.specs.Words.{word_bytes}
+use borrow.Author.Rules.{rules}
+use Rattle.octets.proofs.word.lay_high_first.Goals as goal
+
+pub returns : goal.returns
+unfolding word_bytes
+returns c = rw c.lay_four.ensures
