@@ -1,5 +1,5 @@
 pub mod Ruled
 pub mod Passed
-pub mod Decided
+pub mod DecidedRules
 pub mod Determined
 pub mod Literal

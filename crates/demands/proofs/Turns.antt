@@ -12,7 +12,7 @@ use Rattle.mmbi.specs.declared.interface.Flags.{Flags}
 use Rattle.mmbi.specs.Interface.{same_flags, normal_runtime, asked_by_host, asked_by_controller, all_clear, state_of, may_read}
 use Rattle.mmbi.specs.Interface.{may_write}
 use Rattle.mmbi.specs.Pointers.{pointer_right}
-use Rattle.mmbi.proofs.Pointers.{pointer_facts}
+use Rattle.mmbi.proofs.PointerNumbers.{pointer_facts}
 use Rattle.mmbi.proofs.States.{every_flags, every_flags_lem, same_flags_true}
 use Rattle.ring.specs.Numbers.{set_up_right}
 use Rattle.ring.specs.Runs.{pointer_after, wrote, Drained, drained}

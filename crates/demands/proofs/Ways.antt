@@ -19,7 +19,7 @@ use Rattle.pcc.specs.Writing as regions
 use Rattle.pcc.proofs.Writings as pcc
 use Rattle.mmbi.specs.Interface.{normal_runtime, state_of}
 use Rattle.mmbi.specs.Pointers.{length_right, pointer_right}
-use Rattle.mmbi.proofs.Pointers.{length_facts, pointer_facts}
+use Rattle.mmbi.proofs.PointerNumbers.{length_facts, pointer_facts}
 use Rattle.ring.specs.Layout.{whole_for}
 use Rattle.ring.specs.Numbers.{room_of, next_of}
 use Rattle.ring.specs.Writing as rings

@@ -16,7 +16,7 @@ use Rattle.descriptor.specs.Configuration.{allowed}
 use Rattle.descriptor.specs.Reading.{signature_right, version_right, type_right, configuration_in, read_order}
 use Rattle.descriptor.specs.Reading.{Described, found, refused, described_of}
 use Rattle.descriptor.proofs.Configurations.{Allowed, allowed_facts, allowed_holds, each}
-use Rattle.mmbi.proofs.Pointers.{length_facts}
+use Rattle.mmbi.proofs.PointerNumbers.{length_facts}
 
 -- what makes a descriptor good
 pub record Good (s : List ℕ) : Type 0 where

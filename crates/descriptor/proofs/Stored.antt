@@ -19,7 +19,7 @@ use Rattle.descriptor.specs.declared.configuration.Configuration.{Configuration}
 use Rattle.descriptor.specs.Configuration.{on_units, allowed}
 use Rattle.descriptor.specs.Reading.{found, signature_right, base_at, configuration_in, described_of}
 use Rattle.descriptor.proofs.Configurations.{allowed_facts}
-use Rattle.mmbi.proofs.Pointers.{length_facts}
+use Rattle.mmbi.proofs.PointerNumbers.{length_facts}
 
 unit : (n : ℕ) → n * 8 % 8 ≡ 0
 unit n = omega arith

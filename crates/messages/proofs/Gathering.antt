@@ -39,7 +39,7 @@ use Rattle.decision.specs.Rules.{Decision, put, refuse, after, on_start, gathere
 use Rattle.decision.specs.Decision.{check_order, decided}
 use Rattle.decision.proofs.Ruled.{ruled_start, ruled_follow}
 use Rattle.decision.proofs.Passed.{aged_expired}
-use Rattle.decision.proofs.Decided.{every_decision}
+use Rattle.decision.proofs.DecidedRules.{every_decision}
 use Rattle.receiver.specs.Step.{refused, held, done, Left, slot_in, carried_out, after_offer, offered_to, step_of}
 use Rattle.receiver.proofs.Offered.{offer_slots, put_fields}
 use Rattle.receiver.proofs.Laws.{step_is_offered, step_right, step_size, refused_keeps}

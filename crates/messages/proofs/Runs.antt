@@ -25,7 +25,7 @@ use Rattle.slots.specs.State.{right_state}
 use Rattle.slots.specs.Changes.{with_slot, freed_of}
 use Rattle.slots.proofs.Changes.{freed_right}
 use Rattle.decision.specs.Decision.{aged_of, decided}
-use Rattle.decision.proofs.Decided.{every_decision}
+use Rattle.decision.proofs.DecidedRules.{every_decision}
 use Rattle.receiver.specs.Step.{Said, refused, held, done, answer_of, carried_out, after_offer, offered_to, step_of}
 use Rattle.receiver.proofs.Offered.{OneSlot, no_slot, freed_slot}
 use Rattle.receiver.proofs.Laws.{step_right, step_setup, one_slot}

@@ -25,7 +25,7 @@ use Rattle.slots.specs.Changes.{with_slot, with_offered, set_up_of, freed_of}
 use Rattle.slots.proofs.States.{right_of}
 use Rattle.slots.proofs.Changes.{set_up_right_lem}
 use Rattle.decision.specs.Decision.{aged_of}
-use Rattle.decision.proofs.Decided.{frees_none, every_decision}
+use Rattle.decision.proofs.DecidedRules.{frees_none, every_decision}
 use Rattle.receiver.specs.Step.{Said, refused, answer_of, after_put, slot_in, carried_out, after_offer, offered_to, step_of}
 use Rattle.receiver.proofs.Offered.{put_fields}
 use Rattle.receiver.proofs.Laws.{aged_counts}

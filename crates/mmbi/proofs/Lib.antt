@@ -1,6 +1,6 @@
 pub mod States
 pub mod Words
-pub mod Pointers
+pub mod PointerNumbers
 pub mod Determined
 pub mod Literal
 pub mod Borders

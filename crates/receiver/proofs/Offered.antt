@@ -25,7 +25,7 @@ use Rattle.slots.proofs.States.{right_of, right_holds, with_right}
 use Rattle.slots.proofs.Changes.{free_right, offered_right, done_right}
 use Rattle.decision.specs.Rules.{Decision, refuse}
 use Rattle.decision.specs.Decision.{decided}
-use Rattle.decision.proofs.Decided.{every_decision, frees_none_bounds}
+use Rattle.decision.proofs.DecidedRules.{every_decision, frees_none_bounds}
 use Rattle.receiver.specs.Effects.{Unchanged, SlotFreed}
 use Rattle.receiver.specs.Step.{refused, answer_of, after_put, carried_out, offers, after_offer, offered_to}
 

@@ -21,7 +21,7 @@ use Rattle.slots.specs.Ages.{age, too_old, old_at, expired}
 use Rattle.slots.proofs.States.{right_of}
 use Rattle.slots.proofs.Ages.{age_none, none_too_old, none_expired}
 use Rattle.decision.specs.Rules.{refuse}
-use Rattle.decision.proofs.Decided.{every_decision}
+use Rattle.decision.proofs.DecidedRules.{every_decision}
 use Rattle.receiver.specs.Step.{since_in, after_put, carried_out, after_offer, offered_to, step_of}
 use Rattle.receiver.proofs.Offered.{offer_setup, offer_slots, put_fields}
 use Rattle.receiver.proofs.Laws.{step_is_offered}

@@ -15,7 +15,7 @@ use Rattle.mctp.specs.Packet.{size_right}
 use Rattle.mmbi.specs.declared.interface.Flags.{Flags}
 use Rattle.mmbi.specs.Interface.{normal_runtime, state_of, may_read, may_write}
 use Rattle.mmbi.specs.Pointers.{pointer_right}
-use Rattle.mmbi.proofs.Pointers.{pointer_facts}
+use Rattle.mmbi.proofs.PointerNumbers.{pointer_facts}
 use Rattle.ring.specs.Numbers.{set_up_right, pointers_right, filled_of, room_of, next_of}
 use Rattle.ring.specs.Layout.{whole_for, ring_bytes}
 use Rattle.ring.specs.Reading as reading

@@ -18,7 +18,7 @@ use Rattle.ring.specs.Runs.{all_sized, all_bytes}
 use Rattle.ring.specs.Round.{round_from, stored}
 use Rattle.ring.proofs.Headers.{header_padding, header_type, header_whole, header_size, header_back, packet_back}
 use Rattle.ring.proofs.Headers.{bytes-length}
-use Rattle.mmbi.proofs.Pointers.{Pointer}
+use Rattle.mmbi.proofs.PointerNumbers.{Pointer}
 use Rattle.ring.proofs.Numbers.{SetUp, filled_below, filled_empty, filled_near, filled_room, filled_written}
 use Rattle.ring.proofs.Numbers.{filled_taken}
 use Rattle.ring.proofs.Numbers.{next_right}

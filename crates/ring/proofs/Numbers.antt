@@ -13,7 +13,7 @@ use lib.Dec.{eqb}
 use Rattle.octets.proofs.Choice.{both, within_bounds, within_holds}
 use Rattle.mctp.specs.Packet.{body_right}
 use Rattle.mmbi.specs.Pointers.{length_right, pointer_right}
-use Rattle.mmbi.proofs.Pointers.{Length, length_facts, length_holds, Pointer, pointer_facts, pointer_holds}
+use Rattle.mmbi.proofs.PointerNumbers.{Length, length_facts, length_holds, Pointer, pointer_facts, pointer_holds}
 use Rattle.ring.specs.Numbers.{set_up_right, pointers_right, filled_of, room_of, next_of}
 
 module _ (length pointer : ℕ) (n : ℕ) where

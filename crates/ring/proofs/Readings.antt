@@ -12,7 +12,7 @@ use lib.Seq.{take-append-le}
 use Rattle.octets.specs.Checks.{Check}
 use Rattle.octets.proofs.Checks.{answer_at, Hold, FailsAt, first_failing_lem, none_failing, all_hold, tests}
 use Rattle.octets.proofs.Choice.{within_bounds}
-use Rattle.mmbi.proofs.Pointers.{Pointer}
+use Rattle.mmbi.proofs.PointerNumbers.{Pointer}
 use Rattle.ring.specs.Numbers.{set_up_right, filled_of, next_of}
 use Rattle.ring.specs.Layout.{header_at, whole_of, padding_field, type_field, size_of, mctp_type, packet_of}
 use Rattle.ring.specs.Reading.{Found, packet, empty, skipped, refused, read_order, header_order, judged, found_of}

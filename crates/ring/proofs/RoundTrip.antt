@@ -19,7 +19,7 @@ use Rattle.ring.specs.Round.{round_from, stored}
 use Rattle.ring.specs.Writing.{Entered, entered, refused, entered_of, ring_after, written_of}
 use Rattle.ring.proofs.Headers.{bytes-length}
 use Rattle.ring.proofs.Held.{Holds, holds_none, holds_written, written_keeps, held_good, held_packet}
-use Rattle.mmbi.proofs.Pointers.{Length, length_facts, Pointer}
+use Rattle.mmbi.proofs.PointerNumbers.{Length, length_facts, Pointer}
 use Rattle.ring.proofs.Numbers.{SetUp, filled_near, filled_room, next_near}
 use Rattle.ring.proofs.Readings as readings
 use Rattle.ring.proofs.Rounds.{stored-length}

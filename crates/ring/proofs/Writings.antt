@@ -11,7 +11,7 @@ use lib.ListN.{drop}
 use Rattle.octets.specs.Checks.{Check}
 use Rattle.octets.proofs.Checks.{answer_at, Hold, FailsAt, first_failing_lem, none_failing, all_hold}
 use Rattle.octets.proofs.Choice.{within_bounds, within_holds}
-use Rattle.mmbi.proofs.Pointers.{Pointer}
+use Rattle.mmbi.proofs.PointerNumbers.{Pointer}
 use Rattle.ring.specs.Numbers.{set_up_right, filled_of, room_of, next_of}
 use Rattle.ring.specs.Layout.{whole_for}
 use Rattle.ring.specs.Writing.{Entered, entered, refused, write_order, entered_of}

@@ -1,6 +1,6 @@
 pub mod Slots
 pub mod Numbers
-pub mod Tallies
+pub mod TalliesKept
 pub mod States
 pub mod Found
 pub mod Gathering

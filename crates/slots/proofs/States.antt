@@ -20,7 +20,7 @@ use Rattle.slots.specs.State.{right_slot, clash, right_state}
 use Rattle.slots.specs.Changes.{with_slot}
 use Rattle.slots.proofs.Slots.{four_cases, slot_same, slot_other}
 use Rattle.slots.proofs.Numbers.{slot_holds}
-use Rattle.slots.proofs.Tallies.{one_at_most, sum_at_most, sum_moves, moved_true, past_last}
+use Rattle.slots.proofs.TalliesKept.{one_at_most, sum_at_most, sum_moves, moved_true, past_last}
 
 -- the list: the set-up, four slots, each slot, each pair, the tallies that the slots tell
 pub record Right (most : ℕ) (r : Receiver) : Type 0 where

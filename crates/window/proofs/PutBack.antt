@@ -18,7 +18,7 @@ use Rattle.descriptor.specs.Places.{end_of}
 use Rattle.descriptor.specs.Configuration.{area_place, is_ring, allowed}
 use Rattle.descriptor.proofs.Places.{Apart}
 use Rattle.descriptor.proofs.Configurations.{Allowed, allowed_facts}
-use Rattle.mmbi.proofs.Pointers.{length_facts}
+use Rattle.mmbi.proofs.PointerNumbers.{length_facts}
 use Rattle.window.specs.declared.word.Pointer.{Pointer}
 use Rattle.window.specs.declared.word.Pointer.TheVariants.{H2bWrite, B2hRead, B2hWrite, H2bRead}
 use Rattle.window.specs.Places.{place_in, area_of}

@@ -18,7 +18,7 @@ use Rattle.octets.proofs.Laid.{laid-length}
 use Rattle.mmbi.specs.declared.word.Word.{Word}
 use Rattle.mmbi.specs.Pointers.{pointer_right}
 use Rattle.mmbi.specs.Words.{word_of, number_of}
-use Rattle.mmbi.proofs.Pointers.{Pointer as In, pointer_facts, pointer_holds}
+use Rattle.mmbi.proofs.PointerNumbers.{Pointer as In, pointer_facts, pointer_holds}
 use Rattle.mmbi.proofs.Words.{word_back, number_below}
 use Rattle.descriptor.specs.declared.configuration.Configuration.{Configuration}
 use Rattle.descriptor.specs.declared.configuration.Area.{Area}
@@ -31,7 +31,7 @@ use Rattle.window.specs.Places.{place_in, area_of}
 use Rattle.window.specs.Words.{word_place, has_up, cleared, word_where, word_in, points_into, store_order, store_refusal}
 use Rattle.window.specs.Words.{with_word, stored, pointing, stored_pointer}
 use Rattle.descriptor.proofs.Configurations.{Clear, Allowed, allowed_facts}
-use Rattle.mmbi.proofs.Pointers.{length_facts}
+use Rattle.mmbi.proofs.PointerNumbers.{length_facts}
 use Rattle.window.proofs.Areas.{ring_right_lem}
 use Rattle.octets.proofs.Laid.{laid_beside}
 use Rattle.octets.proofs.Words.{word-length, laid_word, laid_word_beside}

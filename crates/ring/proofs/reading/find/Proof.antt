@@ -5,7 +5,7 @@ use mathlib.Core.Bool.{true, not}
 use native.Mathlib.Omega.{arith}
 use borrow.Author.Tests.{not-true, not-false, lt-leb, le-leb, eq-eqb, ne_eqb}
 use lib.ListN.{length}
-use Rattle.mmbi.proofs.Pointers.{Pointer}
+use Rattle.mmbi.proofs.PointerNumbers.{Pointer}
 use Rattle.ring.specs.Numbers.{set_up_right, pointers_right}
 use Rattle.ring.specs.Reading.{judged}
 use Rattle.ring.proofs.Headers.{header_straight}

@@ -8,7 +8,7 @@ use borrow.Author.Tests.{not-true, not-false}
 use Rattle.octets.proofs.Checks.{tests}
 use Rattle.octets.proofs.Choice.{within_bounds}
 use Rattle.mctp.specs.Packet.{size_right}
-use Rattle.mmbi.proofs.Pointers.{Pointer}
+use Rattle.mmbi.proofs.PointerNumbers.{Pointer}
 use Rattle.ring.specs.Numbers.{set_up_right, pointers_right, next_of}
 use Rattle.ring.specs.Writing.{entered}
 use Rattle.ring.proofs.Numbers.{SetUp, set_up_facts, pointers_facts, filled_high, filled_room}

@@ -1,0 +1,7 @@
+-- `mctp::eid::Eid::is_endpoint` meets its contract.
+-- Assumes nothing.
+use borrow.Author.Rules.{rules}
+use Rattle.mctp.proofs.eid.Eid.is_endpoint.Goals as goal
+
+pub returns : goal.returns
+returns c = rw (c.is_reserved.ensures, c.is_broadcast.ensures)

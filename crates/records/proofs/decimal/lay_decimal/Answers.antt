@@ -1,0 +1,10 @@
+-- `records::decimal::lay_decimal` meets its contract.
+-- Assumes nothing.
+use mathlib.Core.Path.{sym}
+use Rattle.octets.proofs.Laid.{laid_past}
+use borrow.Author.Rules.{rules}
+use Rattle.records.proofs.decimal.lay_decimal.Goals as goal
+
+pub returns-else-at-out : goal.returns-else-at-out
+returns-else-at-out c =
+    (c.count_digits-count.ensures.count, (c.count_digits-count.ensures.few, sym (laid_past _ _ _ c.if-at-out.false)))

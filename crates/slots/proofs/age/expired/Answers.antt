@@ -1,0 +1,48 @@
+-- `slots::age::expired` meets its contract. The invariant: the slots that were looked through are as they are to be.
+-- Assumes nothing.
+use Rattle.std.proofs.Common.{◌≡◌, ℕ, suc, ◌-◌, ◌≤◌, Bool, true, false, sym, refl, ap, ◌∙◌, ⊎_elim, add-one, arith, rules}
+use Rattle.octets.specs.Choice.{pick}
+use Rattle.slots.specs.declared.state.Setup.{Setup}
+use Rattle.slots.specs.declared.state.Receiver.{Receiver}
+use Rattle.slots.specs.Slots.{free_slot, slot_at, since_at}
+use Rattle.slots.specs.Changes.{with_slot}
+use Rattle.slots.specs.Ages.{too_old, old_at, expired_to}
+use Rattle.slots.proofs.Ages.{expired_setup}
+use Rattle.slots.proofs.age.expired.Goals as goal
+
+-- the next slot is freed, or left
+next_to : (time : ℕ) (r q : Receiver) (n : ℕ) (b : Bool) → q ≡ expired_to time r n → old_at time q n ≡ b
+    → pick b (with_slot q n free_slot) q ≡ expired_to time r (suc n)
+unfolding expired_to
+next_to time r q n b e old =
+    ap (λ (t : Bool). pick t (with_slot q n free_slot) q) (sym old)
+    ∙ ap (λ (x : Receiver). pick (old_at time x n) (with_slot x n free_slot) x) e
+
+pub loop-slot-init : goal.loop-slot-init
+unfolding expired_to
+loop-slot-init c = (omega arith, refl)
+
+pub loop-slot-preserved : goal.loop-slot-preserved
+loop-slot-preserved c =
+    let a = c.args in
+    let old : (b : Bool) → c.too_old.result ≡ b → old_at a.time c.loop-slot.next c.loop-slot.slot ≡ b =
+    λ b e.
+    ap (λ (s : Setup). too_old s.limit a.time (slot_at c.loop-slot.next.slots c.loop-slot.slot)
+    (since_at c.loop-slot.next.slots c.loop-slot.slot))
+    (ap (λ (x : Receiver). x.setup) c.loop-slot.invariant.1 ∙ expired_setup a.time a.receiver c.loop-slot.slot c.loop-slot.invariant.0)
+    ∙ sym c.too_old.ensures
+    ∙ e in (
+      omega arith,
+      rw add-one
+          (⊎_elim
+          (λ t. t.2 ∙ t.1.ensures
+          ∙ next_to a.time a.receiver c.loop-slot.next c.loop-slot.slot true c.loop-slot.invariant.1 (old true t.0.taken))
+          (λ t. t.1 ∙ next_to a.time a.receiver c.loop-slot.next c.loop-slot.slot false c.loop-slot.invariant.1 (old false t.0.left))
+          c.if-too_old.branch),
+    )
+
+pub returns : goal.returns
+returns c =
+    let a = c.args in
+    let last : c.loop-slot.slot ≡ 4 = omega (arith, c.loop-slot.invariant.0) in
+    c.loop-slot.invariant.1 ∙ ap (expired_to a.time a.receiver) last

@@ -1,0 +1,7 @@
+-- `slots::check::ours` meets its contract.
+-- Assumes nothing.
+use Rattle.std.proofs.Common.{rules}
+use Rattle.slots.proofs.check.ours.Goals as goal
+
+pub returns : goal.returns
+returns c = rw (c.is_null.ensures, c.is_broadcast.ensures)
