@@ -12,10 +12,10 @@ pub fn lay(window: &mut [u8]) {
     );
 }
 
-pub fn show() {
+pub fn show(rt: HostRuntime) {
     let mut window = [0u8; 40];
     lay(&mut window);
-    text::show(&window, 0, 40);
+    text::show(rt, &window, 0, 40);
 }
 
 // The base of byte 4,294,967,288: with a length of 65,536 added it passes 32 bits, where the sum would be 65,528 and
@@ -23,18 +23,18 @@ pub fn show() {
 pub const FAR: u32 = 536870911;
 
 // What is read where so many bytes are lent, and the ring whose base stands at a byte has this base and this length.
-pub fn read(byte: u8, base: u32, length: u32, size: usize) {
-    let mut window = io::large_buffer();
+pub fn read(rt: HostRuntime, byte: u8, base: u32, length: u32, size: usize) {
+    let mut window = [0u8; 65536];
     lay(&mut window);
     octets::lay_high_first(&mut window, byte as usize, base);
     octets::lay_high_first(&mut window, byte as usize + 8, length);
-    tell(octets::part(&window, 0, size));
+    tell(rt, octets::part(&window, 0, size));
 }
 
-fn tell(window: &[u8]) {
+fn tell(rt: HostRuntime, window: &[u8]) {
     let configured = descriptor::read_descriptor(window);
     match configured {
-        Configured::Refused(why) => text::refused(why),
-        Configured::Checked(_) => text::put(b"good"),
+        Configured::Refused(why) => text::refused(rt, why),
+        Configured::Checked(_) => text::put(rt, b"good"),
     }
 }

@@ -8,22 +8,22 @@ fn make(frame: &mut [u8]) {
     smbus::write(frame, &packet, 32, 17);
 }
 
-pub fn show() {
+pub fn show(rt: HostRuntime) {
     let mut frame = [0u8; 10];
     make(&mut frame);
-    text::show(&frame, 0, 10);
+    text::show(rt, &frame, 0, 10);
 }
 
-pub fn read(own: u8) {
+pub fn read(rt: HostRuntime, own: u8) {
     let mut frame = [0u8; 10];
     make(&mut frame);
     let size = smbus::packet(&frame, own).len();
     let carried = smbus::read(&frame, own);
     match carried {
         Carried::Packet { source } => {
-            text::put_number(b"good, packet of ", size);
-            text::put_number(b" bytes from address ", source as usize);
+            text::put_number(rt, b"good, packet of ", size);
+            text::put_number(rt, b" bytes from address ", source as usize);
         }
-        Carried::Refused(why) => text::refused(why),
+        Carried::Refused(why) => text::refused(rt, why),
     }
 }

@@ -96,98 +96,98 @@ B2H write pointer 128, the ring's length: \xFF
 // The packet in the images: to EID 9 from EID 10, start and end set, with one byte of body.
 const ORDER: [u8; 5] = [0x01, 0x09, 0x0A, 0xC8, 0x00];
 
-fn main() {
-    show_packets();
-    show_window();
-    show_words();
+fn main(rt: HostRuntime) {
+    show_packets(rt);
+    show_window(rt);
+    show_words(rt);
 }
 
-fn show_packets() {
+fn show_packets(rt: HostRuntime) {
     let page = PACKETS;
-    show_page(&page);
+    show_page(rt, &page);
 }
 
-fn show_window() {
+fn show_window(rt: HostRuntime) {
     let page = WINDOW;
-    show_page(&page);
+    show_page(rt, &page);
 }
 
-fn show_words() {
+fn show_words(rt: HostRuntime) {
     let page = WORDS;
-    show_page(&page);
+    show_page(rt, &page);
 }
 
 // Puts the words, and the images in their places.
-fn show_page(page: &[u8]) {
+fn show_page(rt: HostRuntime, page: &[u8]) {
     let mut start = 0;
     let mut end = 0;
     while end < page.len() {
         if 0x80 <= page[end] {
-            text::put(&page[start..end]);
-            show_image(page[end]);
+            text::put(rt, &page[start..end]);
+            show_image(rt, page[end]);
             start = end + 1;
         }
         end += 1;
     }
-    text::put(&page[start..end]);
+    text::put(rt, &page[start..end]);
 }
 
-fn show_image(place: u8) {
+fn show_image(rt: HostRuntime, place: u8) {
     if place < 0xC0 {
-        show_packet(place);
+        show_packet(rt, place);
     } else if place < 0xD0 {
-        show_descriptor(place);
+        show_descriptor(rt, place);
     } else if place < 0xF0 {
-        windows::show(place);
+        windows::show(rt, place);
     } else {
-        words::show(place);
+        words::show(rt, place);
     }
 }
 
-fn show_packet(place: u8) {
+fn show_packet(rt: HostRuntime, place: u8) {
     match place {
-        0x80 => frames::show(),
-        0x81 => frames::read(32),
-        0x82 => frames::read(33),
-        0x83 => frames::read(128),
-        0x90 => regions::show(),
-        0x91 => regions::read(84, 3),
-        0x92 => regions::read(84, 4),
-        0x93 => regions::read(84, 256),
-        0x94 => regions::read(83, 3),
-        0xA0 => rings::write(0, 0, Flags::NORMAL_RUNTIME),
-        0xA1 => rings::show(0, 0, 12),
-        0xA2 => rings::show(0, 12, 16),
-        0xA3 => rings::read(0, 0, 12, Flags::NORMAL_RUNTIME),
-        0xA4 => rings::read(0, 12, 12, Flags::NORMAL_RUNTIME),
-        0xA5 => rings::read(0, 0, 8, Flags::NORMAL_RUNTIME),
-        0xA6 => rings::read(0, 2, 12, Flags::NORMAL_RUNTIME),
-        0xA7 => rings::read(0, 0, 128, Flags::NORMAL_RUNTIME),
-        0xA8 => rings::read(0, 0, 12, Flags::ASKED_BY_HOST),
-        0xA9 => rings::read(0, 0, 12, Flags::ASKED_BY_CONTROLLER),
-        0xAA => rings::read(0, 0, 12, Flags::ACKNOWLEDGED),
-        0xAB => rings::write(0, 0, Flags::ASKED_BY_HOST),
-        0xAC => rings::write(0, 0, Flags::ASKED_BY_CONTROLLER),
-        0xB0 => rings::write(12, 0, Flags::NORMAL_RUNTIME),
-        0xB1 => rings::write(16, 0, Flags::NORMAL_RUNTIME),
-        0xB2 => rings::write(120, 120, Flags::NORMAL_RUNTIME),
-        0xB3 => rings::show(120, 120, 128),
-        0xB4 => rings::show(120, 0, 4),
-        _ => rings::read(120, 120, 4, Flags::NORMAL_RUNTIME),
+        0x80 => frames::show(rt),
+        0x81 => frames::read(rt, 32),
+        0x82 => frames::read(rt, 33),
+        0x83 => frames::read(rt, 128),
+        0x90 => regions::show(rt),
+        0x91 => regions::read(rt, 84, 3),
+        0x92 => regions::read(rt, 84, 4),
+        0x93 => regions::read(rt, 84, 256),
+        0x94 => regions::read(rt, 83, 3),
+        0xA0 => rings::write(rt, 0, 0, Flags::NORMAL_RUNTIME),
+        0xA1 => rings::show(rt, 0, 0, 12),
+        0xA2 => rings::show(rt, 0, 12, 16),
+        0xA3 => rings::read(rt, 0, 0, 12, Flags::NORMAL_RUNTIME),
+        0xA4 => rings::read(rt, 0, 12, 12, Flags::NORMAL_RUNTIME),
+        0xA5 => rings::read(rt, 0, 0, 8, Flags::NORMAL_RUNTIME),
+        0xA6 => rings::read(rt, 0, 2, 12, Flags::NORMAL_RUNTIME),
+        0xA7 => rings::read(rt, 0, 0, 128, Flags::NORMAL_RUNTIME),
+        0xA8 => rings::read(rt, 0, 0, 12, Flags::ASKED_BY_HOST),
+        0xA9 => rings::read(rt, 0, 0, 12, Flags::ASKED_BY_CONTROLLER),
+        0xAA => rings::read(rt, 0, 0, 12, Flags::ACKNOWLEDGED),
+        0xAB => rings::write(rt, 0, 0, Flags::ASKED_BY_HOST),
+        0xAC => rings::write(rt, 0, 0, Flags::ASKED_BY_CONTROLLER),
+        0xB0 => rings::write(rt, 12, 0, Flags::NORMAL_RUNTIME),
+        0xB1 => rings::write(rt, 16, 0, Flags::NORMAL_RUNTIME),
+        0xB2 => rings::write(rt, 120, 120, Flags::NORMAL_RUNTIME),
+        0xB3 => rings::show(rt, 120, 120, 128),
+        0xB4 => rings::show(rt, 120, 0, 4),
+        _ => rings::read(rt, 120, 120, 4, Flags::NORMAL_RUNTIME),
     }
 }
 
-fn show_descriptor(place: u8) {
+fn show_descriptor(rt: HostRuntime, place: u8) {
     match place {
-        0xC0 => descriptors::show(),
-        0xC1 => descriptors::read(8, 16, 128, 512),
-        0xC2 => descriptors::read(8, 16, 128, 63),
-        0xC3 => descriptors::read(8, 16, 128, 511),
-        0xC4 => descriptors::read(8, 16, 128, 65536),
-        0xC5 => descriptors::read(8, FAR, 65536, 512),
-        0xC6 => descriptors::read(8, FAR, 65536, 65536),
-        0xC7 => descriptors::read(12, FAR, 65536, 512),
-        0xC9 => descriptors::read(8, 16, 131200, 65536),
-        _ => descriptors::read(12, FAR, 65536, 65536),
+        0xC0 => descriptors::show(rt),
+        0xC1 => descriptors::read(rt, 8, 16, 128, 512),
+        0xC2 => descriptors::read(rt, 8, 16, 128, 63),
+        0xC3 => descriptors::read(rt, 8, 16, 128, 511),
+        0xC4 => descriptors::read(rt, 8, 16, 128, 65536),
+        0xC5 => descriptors::read(rt, 8, FAR, 65536, 512),
+        0xC6 => descriptors::read(rt, 8, FAR, 65536, 65536),
+        0xC7 => descriptors::read(rt, 12, FAR, 65536, 512),
+        0xC9 => descriptors::read(rt, 8, 16, 131200, 65536),
+        _ => descriptors::read(rt, 12, FAR, 65536, 65536),
     }
 }

@@ -6,28 +6,28 @@ fn make(region: &mut [u8]) {
     pcc::write(region, 3, true, &packet);
 }
 
-pub fn show() {
+pub fn show(rt: HostRuntime) {
     let mut region = [0u8; 84];
     make(&mut region);
-    text::show(&region, 0, 21);
+    text::show(rt, &region, 0, 21);
 }
 
-pub fn read(size: usize, id: u32) {
+pub fn read(rt: HostRuntime, size: usize, id: u32) {
     let mut region = [0u8; 84];
     make(&mut region);
-    tell(pcc::read(octets::part(&region, 0, size), id));
+    tell(rt, pcc::read(octets::part(&region, 0, size), id));
 }
 
-fn tell(carried: pcc::Carried) {
+fn tell(rt: HostRuntime, carried: pcc::Carried) {
     match carried {
         pcc::Carried::Packet { size, notify } => {
-            text::put_number(b"good, packet of ", size);
+            text::put_number(rt, b"good, packet of ", size);
             if notify {
-                text::put(b" bytes, notify set");
+                text::put(rt, b" bytes, notify set");
             } else {
-                text::put(b" bytes, notify clear");
+                text::put(rt, b" bytes, notify clear");
             }
         }
-        pcc::Carried::Refused(why) => text::refused(why),
+        pcc::Carried::Refused(why) => text::refused(rt, why),
     }
 }

@@ -8,50 +8,50 @@ fn store(bytes: &mut [u8], read: usize, write: usize, flags: Flags) -> Written {
     ring::write(bytes, 128, flags, Pointers { read, write }, &packet)
 }
 
-pub fn write(read: usize, write: usize, flags: Flags) {
+pub fn write(rt: HostRuntime, read: usize, write: usize, flags: Flags) {
     let mut bytes = [0xFFu8; 128];
     let stored = store(&mut bytes, read, write, flags);
     match stored {
-        Written::Refused(why) => text::refused(why),
-        Written::Stored(next) => text::put_number(b"good, new write pointer ", next),
+        Written::Refused(why) => text::refused(rt, why),
+        Written::Stored(next) => text::put_number(rt, b"good, new write pointer ", next),
     }
 }
 
 // Some bytes of a ring whose packet was written at a pointer.
-pub fn show(pointer: usize, from: usize, to: usize) {
+pub fn show(rt: HostRuntime, pointer: usize, from: usize, to: usize) {
     let mut bytes = [0xFFu8; 128];
     store(&mut bytes, pointer, pointer, Flags::NORMAL_RUNTIME);
-    text::show(&bytes, from, to);
+    text::show(rt, &bytes, from, to);
 }
 
 // What reading such a ring tells.
-pub fn read(pointer: usize, read: usize, write: usize, flags: Flags) {
+pub fn read(rt: HostRuntime, pointer: usize, read: usize, write: usize, flags: Flags) {
     let mut bytes = [0xFFu8; 128];
     store(&mut bytes, pointer, pointer, Flags::NORMAL_RUNTIME);
     let mut packet = [0u8; 68];
     let carried = ring::read(&bytes, 128, flags, Pointers { read, write }, &mut packet);
-    tell(carried, &packet);
+    tell(rt, carried, &packet);
 }
 
-fn tell(carried: Carried, packet: &[u8]) {
+fn tell(rt: HostRuntime, carried: Carried, packet: &[u8]) {
     match carried {
-        Carried::Empty => text::put(b"empty"),
-        Carried::Refused(why) => text::refused(why),
+        Carried::Empty => text::put(rt, b"empty"),
+        Carried::Refused(why) => text::refused(rt, why),
         Carried::Skipped {
             refusal: why,
             next: next,
         } => {
-            text::refused(why);
-            tell_next(next);
+            text::refused(rt, why);
+            tell_next(rt, next);
         }
         Carried::Packet { size, next } => {
-            text::put(b"good, packet");
-            text::show(packet, 0, size);
-            tell_next(next);
+            text::put(rt, b"good, packet");
+            text::show(rt, packet, 0, size);
+            tell_next(rt, next);
         }
     }
 }
 
-fn tell_next(next: usize) {
-    text::put_number(b", new read pointer ", next);
+fn tell_next(rt: HostRuntime, next: usize) {
+    text::put_number(rt, b", new read pointer ", next);
 }

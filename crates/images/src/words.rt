@@ -4,14 +4,14 @@ use descriptor::{Configuration, Configured};
 use mmbi::Word;
 use window::{Interface, Pointer};
 
-pub fn show(place: u8) {
+pub fn show(rt: HostRuntime, place: u8) {
     let mut window = [0u8; 512];
     descriptors::lay(&mut window);
     lay_words(&mut window, place);
     let configured = descriptor::read_descriptor(&window);
     match configured {
-        Configured::Refused(why) => text::refused(why),
-        Configured::Checked(c) => tell(&mut window, c, place),
+        Configured::Refused(why) => text::refused(rt, why),
+        Configured::Checked(c) => tell(rt, &mut window, c, place),
     }
 }
 
@@ -35,39 +35,45 @@ fn lay_words(window: &mut [u8], place: u8) {
     }
 }
 
-fn tell(window: &mut [u8], c: Configuration, place: u8) {
+fn tell(rt: HostRuntime, window: &mut [u8], c: Configuration, place: u8) {
     match place {
-        0xF8 => tell_pointers(window::interface_of(window, c)),
-        0xF9 => tell_store(window, c, Pointer::H2bWrite, 252),
-        0xFA => tell_store(window, c, Pointer::B2hRead, 124),
-        0xFB => tell_store(window, c, Pointer::B2hWrite, 124),
-        0xFC => tell_store(window, c, Pointer::H2bRead, 252),
-        0xFD => tell_store(window, c, Pointer::H2bWrite, 254),
-        0xFE => tell_store(window, c, Pointer::H2bWrite, 256),
-        0xFF => tell_store(window, c, Pointer::B2hWrite, 128),
-        _ => tell_flags(window::interface_of(window, c)),
+        0xF8 => tell_pointers(rt, window::interface_of(window, c)),
+        0xF9 => tell_store(rt, window, c, Pointer::H2bWrite, 252),
+        0xFA => tell_store(rt, window, c, Pointer::B2hRead, 124),
+        0xFB => tell_store(rt, window, c, Pointer::B2hWrite, 124),
+        0xFC => tell_store(rt, window, c, Pointer::H2bRead, 252),
+        0xFD => tell_store(rt, window, c, Pointer::H2bWrite, 254),
+        0xFE => tell_store(rt, window, c, Pointer::H2bWrite, 256),
+        0xFF => tell_store(rt, window, c, Pointer::B2hWrite, 128),
+        _ => tell_flags(rt, window::interface_of(window, c)),
     }
 }
 
-fn tell_flags(seen: Interface) {
+fn tell_flags(rt: HostRuntime, seen: Interface) {
     let flags = seen.flags;
-    text::put_if(flags.controller_up, b" B_UP");
-    text::put_if(flags.controller_reset, b" B_RST");
-    text::put_if(seen.controller_ready, b" B_RDY");
-    text::put_if(flags.host_up, b" H_UP");
-    text::put_if(flags.host_reset, b" H_RST");
-    text::put_if(seen.host_ready, b" H_RDY");
+    text::put_if(rt, flags.controller_up, b" B_UP");
+    text::put_if(rt, flags.controller_reset, b" B_RST");
+    text::put_if(rt, seen.controller_ready, b" B_RDY");
+    text::put_if(rt, flags.host_up, b" H_UP");
+    text::put_if(rt, flags.host_reset, b" H_RST");
+    text::put_if(rt, seen.host_ready, b" H_RDY");
 }
 
-fn tell_pointers(seen: Interface) {
-    text::put_number(b"B2H read ", seen.b2h.read);
-    text::put_number(b" write ", seen.b2h.write);
-    text::put_number(b", H2B read ", seen.h2b.read);
-    text::put_number(b" write ", seen.h2b.write);
+fn tell_pointers(rt: HostRuntime, seen: Interface) {
+    text::put_number(rt, b"B2H read ", seen.b2h.read);
+    text::put_number(rt, b" write ", seen.b2h.write);
+    text::put_number(rt, b", H2B read ", seen.h2b.read);
+    text::put_number(rt, b" write ", seen.h2b.write);
 }
 
 // A pointer stored with both bits set, and the two structures after it.
-fn tell_store(window: &mut [u8], c: Configuration, which: Pointer, pointer: usize) {
+fn tell_store(
+    rt: HostRuntime,
+    window: &mut [u8],
+    c: Configuration,
+    which: Pointer,
+    pointer: usize,
+) {
     let word = Word {
         pointer,
         bit1: true,
@@ -75,10 +81,10 @@ fn tell_store(window: &mut [u8], c: Configuration, which: Pointer, pointer: usiz
     };
     let number = window::store(window, c, which, word);
     if number == 0 {
-        text::put(b"stored");
+        text::put(rt, b"stored");
     } else {
-        text::put_number(b"refused ", number as usize);
+        text::put_number(rt, b"refused ", number as usize);
     }
-    text::put(b", then");
-    text::show(window, 64, 80);
+    text::put(rt, b", then");
+    text::show(rt, window, 64, 80);
 }

@@ -5,44 +5,44 @@ use mctp::Outcome;
 use receiver::Answer;
 
 // The answer to a packet after a script.
-pub fn tell_after(size: usize, script: &[u8], last: usize, byte: u8) {
+pub fn tell_after(rt: HostRuntime, size: usize, script: &[u8], last: usize, byte: u8) {
     let mut memory = [0u8; 4096];
     let before = after(size, script, &mut memory);
     let given = give(before, &mut memory, last, byte, 0);
     let answer = given.answer;
-    tell_answer(answer);
+    tell_answer(rt, answer);
 }
 
-pub fn tell_answer(answer: Answer) {
+pub fn tell_answer(rt: HostRuntime, answer: Answer) {
     match answer {
-        Answer::Refused { refusal } => refused(refusal),
+        Answer::Refused { refusal } => refused(rt, refusal),
         Answer::Held { slot, bytes, again } => {
-            tell(b"held slot ", slot as usize);
-            tell(b" bytes ", bytes);
-            tell_again(again);
+            tell(rt, b"held slot ", slot as usize);
+            tell(rt, b" bytes ", bytes);
+            tell_again(rt, again);
         }
         Answer::Done {
             slot,
             length,
             again,
         } => {
-            tell(b"done slot ", slot as usize);
-            tell(b" length ", length);
-            tell_again(again);
+            tell(rt, b"done slot ", slot as usize);
+            tell(rt, b" length ", length);
+            tell_again(rt, again);
         }
     }
 }
 
 // What a call that changes the receiver came to.
-pub fn tell_outcome(outcome: Outcome) {
+pub fn tell_outcome(rt: HostRuntime, outcome: Outcome) {
     match outcome {
-        Outcome::Good => say(b"good"),
-        Outcome::Refused(why) => refused(why),
+        Outcome::Good => say(rt, b"good"),
+        Outcome::Refused(why) => refused(rt, why),
     }
 }
 
-fn tell_again(again: bool) {
+fn tell_again(rt: HostRuntime, again: bool) {
     if again {
-        say(b" again");
+        say(rt, b" again");
     }
 }

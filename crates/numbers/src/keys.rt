@@ -6,13 +6,13 @@ use crate::packets::fresh;
 const STARTS: [u8; 7] = [0x88, 0x89, 0x8A, 0x8B, 0x8C, 2, 0x8C];
 
 // A start after so many steps.
-pub fn tell(steps: usize, byte: u8) {
+pub fn tell(rt: HostRuntime, steps: usize, byte: u8) {
     let starts = STARTS;
-    tell_after(5, octets::part(&starts, 0, steps), 5, byte);
+    tell_after(rt, 5, octets::part(&starts, 0, steps), 5, byte);
 }
 
-pub fn tell_freed(slot: usize) {
+pub fn tell_freed(rt: HostRuntime, slot: usize) {
     let changed = slots::free(fresh(), slot);
     let outcome = changed.outcome;
-    tell_outcome(outcome);
+    tell_outcome(rt, outcome);
 }

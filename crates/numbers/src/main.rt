@@ -118,129 +118,129 @@ path pcc: \xE1
 path ring: \xE2
 ";
 
-fn main() {
+fn main(rt: HostRuntime) {
     let page = PAGE;
-    tell_page(&page);
+    tell_page(rt, &page);
 }
 
 // Says the page, and in place of each mark what came of the trial.
-fn tell_page(page: &[u8]) {
+fn tell_page(rt: HostRuntime, page: &[u8]) {
     let mut from = 0;
     let mut i = 0;
     while i < page.len() {
         let mark = page[i];
         if 0x80 <= mark {
-            text::say(&page[from..i]);
-            tell_trial(mark);
+            text::say(rt, &page[from..i]);
+            tell_trial(rt, mark);
             from = i + 1;
         }
         i += 1;
     }
-    text::say(&page[from..i]);
+    text::say(rt, &page[from..i]);
 }
 
-fn tell_trial(mark: u8) {
+fn tell_trial(rt: HostRuntime, mark: u8) {
     match mark {
-        0x80 => frames::read(5),
-        0x81 => frames::read(6),
-        0x82 => frames::read(69),
-        0x83 => frames::read(70),
-        0x84 => frames::write(4),
-        0x85 => frames::write(5),
-        0x86 => frames::write(68),
-        0x87 => frames::write(69),
-        0x90 => regions::read(8),
-        0x91 => regions::read(9),
-        0x92 => regions::read(72),
-        0x93 => regions::read(73),
-        0xA0 => states::tell(false, false, false, false),
-        0xA1 => states::tell(true, false, false, false),
-        0xA2 => states::tell(true, false, true, false),
-        0xA3 => states::tell(true, false, true, true),
-        0xA4 => states::tell(true, true, true, false),
-        0xA5 => states::tell(true, true, true, true),
-        0xB0 => messages::tell(0, 5, 0xC8),
-        0xB1 => messages::tell(15, 68, 0x38),
-        0xB2 => messages::tell(16, 5, 0x48),
-        0xB3 => messages::tell_dropped(),
-        0xB4 => messages::tell(15, 68, 0x78),
-        0xC0 => keys::tell(0, 0x88),
-        0xC1 => keys::tell(1, 0x89),
-        0xC2 => keys::tell(2, 0x8A),
-        0xC3 => keys::tell(3, 0x8B),
-        0xC4 => keys::tell(4, 0x8C),
-        0xC5 => keys::tell(6, 0x8C),
-        0xC6 => keys::tell(7, 0x8C),
-        0xC7 => keys::tell_freed(3),
-        0xC8 => keys::tell_freed(4),
-        0xE0 => paths::tell_smbus(),
-        0xE1 => paths::tell_pcc(),
-        0xE2 => paths::tell_ring(),
-        0xE8 => panel::tell_after(0),
-        0xE9 => panel::tell_after(1),
-        0xEA => panel::tell_after(2),
-        0xEB => panel::tell_after(3),
-        0xEC => panel::tell_after(4),
-        0xED => panel::tell_after(5),
-        0xEE => panel::tell_after(6),
-        0xEF => panel::tell_after(7),
-        0xFD => panel::tell_after(8),
-        _ => tell_age(mark),
+        0x80 => frames::read(rt, 5),
+        0x81 => frames::read(rt, 6),
+        0x82 => frames::read(rt, 69),
+        0x83 => frames::read(rt, 70),
+        0x84 => frames::write(rt, 4),
+        0x85 => frames::write(rt, 5),
+        0x86 => frames::write(rt, 68),
+        0x87 => frames::write(rt, 69),
+        0x90 => regions::read(rt, 8),
+        0x91 => regions::read(rt, 9),
+        0x92 => regions::read(rt, 72),
+        0x93 => regions::read(rt, 73),
+        0xA0 => states::tell(rt, false, false, false, false),
+        0xA1 => states::tell(rt, true, false, false, false),
+        0xA2 => states::tell(rt, true, false, true, false),
+        0xA3 => states::tell(rt, true, false, true, true),
+        0xA4 => states::tell(rt, true, true, true, false),
+        0xA5 => states::tell(rt, true, true, true, true),
+        0xB0 => messages::tell(rt, 0, 5, 0xC8),
+        0xB1 => messages::tell(rt, 15, 68, 0x38),
+        0xB2 => messages::tell(rt, 16, 5, 0x48),
+        0xB3 => messages::tell_dropped(rt),
+        0xB4 => messages::tell(rt, 15, 68, 0x78),
+        0xC0 => keys::tell(rt, 0, 0x88),
+        0xC1 => keys::tell(rt, 1, 0x89),
+        0xC2 => keys::tell(rt, 2, 0x8A),
+        0xC3 => keys::tell(rt, 3, 0x8B),
+        0xC4 => keys::tell(rt, 4, 0x8C),
+        0xC5 => keys::tell(rt, 6, 0x8C),
+        0xC6 => keys::tell(rt, 7, 0x8C),
+        0xC7 => keys::tell_freed(rt, 3),
+        0xC8 => keys::tell_freed(rt, 4),
+        0xE0 => paths::tell_smbus(rt),
+        0xE1 => paths::tell_pcc(rt),
+        0xE2 => paths::tell_ring(rt),
+        0xE8 => panel::tell_after(rt, 0),
+        0xE9 => panel::tell_after(rt, 1),
+        0xEA => panel::tell_after(rt, 2),
+        0xEB => panel::tell_after(rt, 3),
+        0xEC => panel::tell_after(rt, 4),
+        0xED => panel::tell_after(rt, 5),
+        0xEE => panel::tell_after(rt, 6),
+        0xEF => panel::tell_after(rt, 7),
+        0xFD => panel::tell_after(rt, 8),
+        _ => tell_age(rt, mark),
     }
 }
 
-fn tell_age(mark: u8) {
+fn tell_age(rt: HostRuntime, mark: u8) {
     match mark {
-        0x94 => ages::tell_limit(0),
-        0x95 => ages::tell_limit(1),
-        0x96 => ages::tell_limit(60000),
-        0x97 => ages::tell_limit(60001),
-        0xB8 => ages::tell_behind(0, ages::NEXT, 1000),
-        0xB9 => ages::tell_behind(0, ages::NEXT, 1001),
-        0xBA => ages::tell_behind(0, ages::START, 1000),
-        0xBB => ages::tell_behind(0, ages::START, 1001),
-        0xBC => ages::tell_behind(4294967290, ages::NEXT, 994),
-        0xBD => ages::tell_behind(4294967290, ages::NEXT, 995),
-        0xBE => ages::tell_behind(1000, ages::NEXT, 999),
-        0xBF => ages::tell_behind(5, ages::NEXT, 5),
-        _ => tell_sending(mark),
+        0x94 => ages::tell_limit(rt, 0),
+        0x95 => ages::tell_limit(rt, 1),
+        0x96 => ages::tell_limit(rt, 60000),
+        0x97 => ages::tell_limit(rt, 60001),
+        0xB8 => ages::tell_behind(rt, 0, ages::NEXT, 1000),
+        0xB9 => ages::tell_behind(rt, 0, ages::NEXT, 1001),
+        0xBA => ages::tell_behind(rt, 0, ages::START, 1000),
+        0xBB => ages::tell_behind(rt, 0, ages::START, 1001),
+        0xBC => ages::tell_behind(rt, 4294967290, ages::NEXT, 994),
+        0xBD => ages::tell_behind(rt, 4294967290, ages::NEXT, 995),
+        0xBE => ages::tell_behind(rt, 1000, ages::NEXT, 999),
+        0xBF => ages::tell_behind(rt, 5, ages::NEXT, 5),
+        _ => tell_sending(rt, mark),
     }
 }
 
-fn tell_sending(mark: u8) {
+fn tell_sending(rt: HostRuntime, mark: u8) {
     match mark {
-        0xD0 => sending::tell_count(0),
-        0xD1 => sending::tell_count(1),
-        0xD2 => sending::tell_count(64),
-        0xD3 => sending::tell_count(65),
-        0xD4 => sending::tell_count(1024),
-        0xD5 => sending::tell_count(1025),
-        0xD6 => sending::tell_count(130),
-        0xD7 => sending::tell_packet(9, 0),
-        0xD8 => sending::tell_packet(9, 1),
-        0xD9 => sending::tell_packet(9, 2),
-        0xDA => sending::tell_packet(9, 3),
-        0xDB => sending::tell_short(),
-        0xDC => sending::tell_packet(7, 0),
-        0xDD => sending::tell_frames(),
-        _ => tell_header(mark),
+        0xD0 => sending::tell_count(rt, 0),
+        0xD1 => sending::tell_count(rt, 1),
+        0xD2 => sending::tell_count(rt, 64),
+        0xD3 => sending::tell_count(rt, 65),
+        0xD4 => sending::tell_count(rt, 1024),
+        0xD5 => sending::tell_count(rt, 1025),
+        0xD6 => sending::tell_count(rt, 130),
+        0xD7 => sending::tell_packet(rt, 9, 0),
+        0xD8 => sending::tell_packet(rt, 9, 1),
+        0xD9 => sending::tell_packet(rt, 9, 2),
+        0xDA => sending::tell_packet(rt, 9, 3),
+        0xDB => sending::tell_short(rt),
+        0xDC => sending::tell_packet(rt, 7, 0),
+        0xDD => sending::tell_frames(rt),
+        _ => tell_header(rt, mark),
     }
 }
 
-fn tell_header(mark: u8) {
+fn tell_header(rt: HostRuntime, mark: u8) {
     match mark {
-        0xF1 => headers::tell_own(0),
-        0xF2 => headers::tell_own(1),
-        0xF3 => headers::tell_own(7),
-        0xF4 => headers::tell_own(8),
-        0xF5 => headers::tell_own(254),
-        0xF6 => headers::tell_own(255),
-        0xF7 => headers::tell_from(0),
-        0xF8 => headers::tell_from(1),
-        0xF9 => headers::tell_from(7),
-        0xFA => headers::tell_from(8),
-        0xFB => headers::tell_from(254),
-        0xFC => headers::tell_from(255),
-        _ => headers::tell_fields(b"\xF1\x09\x0A\xBD"),
+        0xF1 => headers::tell_own(rt, 0),
+        0xF2 => headers::tell_own(rt, 1),
+        0xF3 => headers::tell_own(rt, 7),
+        0xF4 => headers::tell_own(rt, 8),
+        0xF5 => headers::tell_own(rt, 254),
+        0xF6 => headers::tell_own(rt, 255),
+        0xF7 => headers::tell_from(rt, 0),
+        0xF8 => headers::tell_from(rt, 1),
+        0xF9 => headers::tell_from(rt, 7),
+        0xFA => headers::tell_from(rt, 8),
+        0xFB => headers::tell_from(rt, 254),
+        0xFC => headers::tell_from(rt, 255),
+        _ => headers::tell_fields(rt, b"\xF1\x09\x0A\xBD"),
     }
 }

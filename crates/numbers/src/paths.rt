@@ -6,34 +6,34 @@ use crate::text::say;
 use mmbi::Pointers;
 use rack::Arrived;
 
-pub fn tell_arrived(arrived: Arrived) {
+pub fn tell_arrived(rt: HostRuntime, arrived: Arrived) {
     match arrived {
-        Arrived::Given { beside: _, answer } => tell_answer(answer),
-        Arrived::Nothing { why: _ } => say(b"no packet"),
+        Arrived::Given { beside: _, answer } => tell_answer(rt, answer),
+        Arrived::Nothing { why: _ } => say(rt, b"no packet"),
     }
 }
 
-pub fn tell_smbus() {
+pub fn tell_smbus(rt: HostRuntime) {
     let packet = ORDER;
     let mut frame = [0u8; 10];
     smbus::write(&mut frame, &packet, 32, 17);
     let mut memory = [0u8; 4096];
     let received = rack::from_smbus(&frame, 32, fresh(), &mut memory, 0);
     let arrived = received.arrived;
-    tell_arrived(arrived);
+    tell_arrived(rt, arrived);
 }
 
-pub fn tell_pcc() {
+pub fn tell_pcc(rt: HostRuntime) {
     let packet = ORDER;
     let mut region = [0u8; 84];
     pcc::write(&mut region, 3, true, &packet);
     let mut memory = [0u8; 4096];
     let received = rack::from_pcc(&region, 3, fresh(), &mut memory, 0);
     let arrived = received.arrived;
-    tell_arrived(arrived);
+    tell_arrived(rt, arrived);
 }
 
-pub fn tell_ring() {
+pub fn tell_ring(rt: HostRuntime) {
     let packet = ORDER;
     let running = flags(true, false, true, false);
     let mut bytes = [0u8; 128];
@@ -52,5 +52,5 @@ pub fn tell_ring() {
         0,
     );
     let arrived = received.arrived;
-    tell_arrived(arrived);
+    tell_arrived(rt, arrived);
 }

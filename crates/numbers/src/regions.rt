@@ -4,23 +4,23 @@ use crate::text::{refused, say, tell};
 use pcc::Carried;
 
 // A region that is right in all but, perhaps, its length word.
-pub fn read(length: u32) {
+pub fn read(rt: HostRuntime, length: u32) {
     let packet = ORDER;
     let mut region = [0u8; 84];
     pcc::write(&mut region, 3, false, &packet);
     octets::lay_low_first(&mut region, 8, length);
-    tell_carried(pcc::read(&region, 3));
+    tell_carried(rt, pcc::read(&region, 3));
 }
 
-fn tell_carried(carried: Carried) {
+fn tell_carried(rt: HostRuntime, carried: Carried) {
     match carried {
-        Carried::Refused(why) => refused(why),
+        Carried::Refused(why) => refused(rt, why),
         Carried::Packet { size, notify } => {
-            tell(b"good, packet of ", size);
+            tell(rt, b"good, packet of ", size);
             if notify {
-                say(b" bytes, notify set");
+                say(rt, b" bytes, notify set");
             } else {
-                say(b" bytes, notify clear");
+                say(rt, b" bytes, notify clear");
             }
         }
     }

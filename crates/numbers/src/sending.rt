@@ -10,12 +10,12 @@ use slots::Receiver;
 use smbus::Written;
 
 // The number of packets of a message of this size.
-pub fn tell_count(size: usize) {
+pub fn tell_count(rt: HostRuntime, size: usize) {
     let bytes = [0u8; 1025];
     let counted = sender::count(octets::part(&bytes, 0, size));
     match counted {
-        Counted::Refused(why) => refused(why),
-        Counted::Packets(n) => tell(b"packets ", n),
+        Counted::Refused(why) => refused(rt, why),
+        Counted::Packets(n) => tell(rt, b"packets ", n),
     }
 }
 
@@ -32,56 +32,56 @@ fn heading(destination: u8) -> Heading {
 }
 
 // Packet k of the 130 bytes, in an output that any packet fits into.
-pub fn tell_packet(destination: u8, k: usize) {
+pub fn tell_packet(rt: HostRuntime, destination: u8, k: usize) {
     let mut out = [0u8; 68];
-    tell_cut(&mut out, destination, k);
+    tell_cut(rt, &mut out, destination, k);
 }
 
 // Packet 0 of them, in an output that is a byte too short.
-pub fn tell_short() {
+pub fn tell_short(rt: HostRuntime) {
     let mut out = [0u8; 67];
-    tell_cut(&mut out, 9, 0);
+    tell_cut(rt, &mut out, 9, 0);
 }
 
-fn tell_cut(out: &mut [u8], destination: u8, k: usize) {
+fn tell_cut(rt: HostRuntime, out: &mut [u8], destination: u8, k: usize) {
     let message = [0u8; 130];
     let cut = sender::to_output(out, &message, heading(destination), k);
     match cut {
-        Cut::Refused(why) => refused(why),
+        Cut::Refused(why) => refused(rt, why),
         Cut::Packet(size) => {
             let packet = octets::part(out, 0, size);
-            tell(b"good, ", size);
-            tell(b" bytes, body of ", octets::part(packet, 4, 64).len());
-            say(b", ");
-            tell_fields(packet);
+            tell(rt, b"good, ", size);
+            tell(rt, b" bytes, body of ", octets::part(packet, 4, 64).len());
+            say(rt, b", ");
+            tell_fields(rt, packet);
         }
     }
 }
 
 // The frames of packets 0 to 2, given one after another to a fresh receiver.
-pub fn tell_frames() {
+pub fn tell_frames(rt: HostRuntime) {
     let mut memory = [0u8; 4096];
-    let first = send(fresh(), &mut memory, 0);
-    say(b", ");
-    let second = send(first, &mut memory, 1);
-    say(b", ");
-    send(second, &mut memory, 2);
+    let first = send(rt, fresh(), &mut memory, 0);
+    say(rt, b", ");
+    let second = send(rt, first, &mut memory, 1);
+    say(rt, b", ");
+    send(rt, second, &mut memory, 2);
 }
 
 // Packet k sent from address 17 to address 32, and received there.
-fn send(before: Receiver, memory: &mut Memory, k: usize) -> Receiver {
+fn send(rt: HostRuntime, before: Receiver, memory: &mut Memory, k: usize) -> Receiver {
     let message = [0u8; 130];
     let mut frame = [0u8; 73];
     let written = sender::to_smbus(&mut frame, &message, heading(9), k, 32, 17);
     match written {
         Written::Refused(why) => {
-            refused(why);
+            refused(rt, why);
             before
         }
         Written::Frame(size) => {
             let received = rack::from_smbus(octets::part(&frame, 0, size), 32, before, memory, 0);
             let arrived = received.arrived;
-            tell_arrived(arrived);
+            tell_arrived(rt, arrived);
             received.receiver
         }
     }

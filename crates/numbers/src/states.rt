@@ -12,17 +12,17 @@ pub fn flags(b_up: bool, b_rst: bool, h_up: bool, h_rst: bool) -> Flags {
 }
 
 // The five states that have a name of their own; the rest are transient.
-pub fn tell(b_up: bool, b_rst: bool, h_up: bool, h_rst: bool) {
+pub fn tell(rt: HostRuntime, b_up: bool, b_rst: bool, h_up: bool, h_rst: bool) {
     let state = mmbi::state(flags(b_up, b_rst, h_up, h_rst));
     if mmbi::transient(state) {
-        say(b"transient");
+        say(rt, b"transient");
     }
     match state {
-        InterfaceState::InitializationCompleted => say(b"initialization completed"),
-        InterfaceState::NormalRuntime => say(b"normal runtime"),
-        InterfaceState::ResetRequestByHost => say(b"reset asked by host"),
-        InterfaceState::ResetRequestByController => say(b"reset asked by controller"),
-        InterfaceState::ResetAcked => say(b"reset acknowledged"),
+        InterfaceState::InitializationCompleted => say(rt, b"initialization completed"),
+        InterfaceState::NormalRuntime => say(rt, b"normal runtime"),
+        InterfaceState::ResetRequestByHost => say(rt, b"reset asked by host"),
+        InterfaceState::ResetRequestByController => say(rt, b"reset asked by controller"),
+        InterfaceState::ResetAcked => say(rt, b"reset acknowledged"),
         _ => {}
     }
 }

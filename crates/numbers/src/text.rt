@@ -1,19 +1,24 @@
 // Text to standard output, piece by piece. Standard error hears of words that could not be written.
-use libc::STDOUT_FILENO;
 use mctp::Refusal;
+use std::io;
+use std::io::Write;
 
-pub fn say(words: &[u8]) {
-    if !io::write_all(STDOUT_FILENO, words) {
-        os::fail(b"numbers: standard output");
+pub fn say(rt: HostRuntime, words: &[u8]) {
+    told(rt, rt.stdout().write_all(words));
+}
+
+fn told(rt: HostRuntime, outcome: io::Result<()>) {
+    if let Err(e) = outcome {
+        let _ = eprintln!(rt; "numbers: standard output: {e}");
     }
 }
 
 // Words and a number behind them.
-pub fn tell(words: &[u8], n: usize) {
-    say(words);
-    io::print_decimal(STDOUT_FILENO, n as u64);
+pub fn tell(rt: HostRuntime, words: &[u8], n: usize) {
+    say(rt, words);
+    told(rt, rt.print(n));
 }
 
-pub fn refused(why: Refusal) {
-    tell(b"refused ", why.number() as usize);
+pub fn refused(rt: HostRuntime, why: Refusal) {
+    tell(rt, b"refused ", why.number() as usize);
 }

@@ -81,9 +81,9 @@ That took \x96 steps.
 For the rest see [RULES.md](RULES.md#reset-handshake), [DECISIONS.md](DECISIONS.md) and [LOOSER.md](LOOSER.md).
 ";
 
-fn main() {
+fn main(rt: HostRuntime) {
     let page = PAGE;
-    tell_page(Text { written: true }, &page);
+    tell_page(Text { rt, written: true }, &page);
 }
 
 // Says the page, and in place of each mark what the calls answer.

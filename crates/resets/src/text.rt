@@ -1,10 +1,12 @@
 // Text to standard output, piece by piece. Where a piece can't be written, standard error hears of it once and nothing
 // follows.
-use libc::STDOUT_FILENO;
+use std::io;
+use std::io::Write;
 
 // Whether all that was said so far was written.
-#[derive(Drop)]
+#[derive(Clone, Copy)]
 pub struct Text {
+    pub rt: HostRuntime,
     pub written: bool,
 }
 
@@ -13,11 +15,20 @@ impl Text {
         if !self.written {
             return self;
         }
-        let written = io::write_all(STDOUT_FILENO, words);
-        if !written {
-            os::fail(b"resets: standard output");
+        self.told(self.rt.stdout().write_all(words))
+    }
+
+    fn told(self, outcome: io::Result<()>) -> Text {
+        match outcome {
+            Ok(()) => self,
+            Err(e) => {
+                let _ = eprintln!(self.rt; "resets: standard output: {e}");
+                Text {
+                    rt: self.rt,
+                    written: false,
+                }
+            }
         }
-        Text { written }
     }
 
     // One of some lines, counted from 0.
@@ -39,8 +50,9 @@ impl Text {
     }
 
     pub fn number(self, n: usize) -> Text {
-        let mut digits = [0u8; 20];
-        let size = io::decimal(n as u64, &mut digits);
-        self.say(&digits[..size])
+        if !self.written {
+            return self;
+        }
+        self.told(self.rt.print(n))
     }
 }

@@ -7,4 +7,8 @@ use Rattle.records.proofs.decimal.lay_decimal.Goals as goal
 
 pub returns-else-at-out : goal.returns-else-at-out
 returns-else-at-out c =
-    (c.count_digits-count.ensures.count, (c.count_digits-count.ensures.few, sym (laid_past _ _ _ c.if-at-out.false)))
+    record {
+      count = c.count_digits-count.ensures.count;
+      few = c.count_digits-count.ensures.few;
+      output = sym (laid_past _ _ _ c.if-at-out.false);
+    }

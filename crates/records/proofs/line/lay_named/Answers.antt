@@ -15,6 +15,6 @@ returns c =
     let digits = c.lay_decimal.ensures in record {
       placed = Placed-append a.word.now (decimal a.n)
           (record { place = refl; stored = c.lay.ensures })
-          (record { place = omega arith; stored = digits.1.1 });
+          (record { place = omega arith; stored = digits.output });
       near = omega arith;
     }

@@ -7,15 +7,13 @@ use Rattle.records.proofs.line.line_size.Goals as goal
 
 pub returns-in-Done : goal.returns-in-Done
 returns-in-Done c =
-    let v = c.line-1.given.0 in
     rw c.in-Done.is
-    (omega (arith, done_size c.args.number v.0 v.1.0 v.1.1.0))
+    (omega (arith, done_size c.args.number c.in-Done.slot c.in-Done.length c.in-Done.again))
 
 pub returns-in-Held : goal.returns-in-Held
 returns-in-Held c =
-    let v = c.line-in-Held-1.given.0 in
     rw c.in-Held.is
-    (omega (arith, held_size c.args.number v.0 v.1.0 v.1.1.0))
+    (omega (arith, held_size c.args.number c.in-Held.slot c.in-Held.bytes c.in-Held.again))
 
 pub returns-in-Refused : goal.returns-in-Refused
 returns-in-Refused c =
