@@ -11,16 +11,16 @@ ghost use Rattle.transcript.specs.Last.{closing};
 ghost use Rattle.bench.specs.Sending.{Sends};
 ghost use Rattle.bench.specs.Main.{Turns, Runs};
 
-use libc::STDIN_FILENO;
 use sending::Sent;
+use std::io::Read;
 use transcript::State;
 
 // "it keeps message memory of 4,096 zero bytes"
-fn main() {
+fn main(rt: HostRuntime) {
     let mut memory = [0u8; 4096];
     let mut input = [0u8; 16384];
     let mut output = [0u8; 16384];
-    run(&mut memory, &mut input, &mut output);
+    run(rt, &mut memory, &mut input, &mut output);
 }
 
 // The state at the end, what was sent, and whether a read failed.
@@ -33,7 +33,7 @@ struct Ended {
 
 // Turn after turn until the input ends or a call fails; then the last line, but not after a read that failed.
 // A proved loop has to end, and nothing says that the input does: it counts down from a number that no run uses up.
-fn run(memory: &mut [u8], input: &mut [u8], output: &mut [u8]) -> Ended
+fn run(rt: HostRuntime, memory: &mut [u8], input: &mut [u8], output: &mut [u8]) -> Ended
     requires memory_value { memory.old ≡ replicate 4096 0 }
     requires in_bounds { (256 ≤ length input.old) × (86 ≤ length output.old) }
     ensures { Runs memory.old result memory.new output.new }
@@ -47,7 +47,7 @@ fn run(memory: &mut [u8], input: &mut [u8], output: &mut [u8]) -> Ended
     };
     let mut turns = u64::MAX;
     while last.more & (turns > 0) {
-        last = turn(last.state, memory, input, output, last.held, last.sent);
+        last = turn(rt, last.state, memory, input, output, last.held, last.sent);
         turns -= 1;
     }
     let state = last.state;
@@ -61,7 +61,7 @@ fn run(memory: &mut [u8], input: &mut [u8], output: &mut [u8]) -> Ended
     }
     Ended {
         state: state,
-        sent: finish(state, output, sent),
+        sent: finish(rt, state, output, sent),
         failed: false,
     }
 }
@@ -78,6 +78,7 @@ struct Turned {
 
 // One turn: reads, takes the whole records, and moves what is left to the front.
 fn turn(
+    rt: HostRuntime,
     before: State,
     memory: &mut [u8],
     input: &mut [u8],
@@ -89,10 +90,10 @@ fn turn(
     ensures { Turns before memory.old (take held input.old) earlier
         result memory.new input.new }
 {
-    let filled = fill(input, held);
+    let filled = fill(rt, input, held);
     let end = filled.end;
     let failed = filled.failed;
-    let drained = drain(before, memory, &input[0..end], output, earlier);
+    let drained = drain(rt, before, memory, &input[0..end], output, earlier);
     let after = drained.state;
     let sent = drained.sent;
     let rest = transcript::to_front(input, drained.read, end);
@@ -113,25 +114,25 @@ struct Filled {
 }
 
 // Reads once behind the bytes held. A read that fails is told on standard error.
-fn fill(input: &mut [u8], held: usize) -> Filled
+fn fill(rt: HostRuntime, input: &mut [u8], held: usize) -> Filled
     requires { held ≤ length input.old }
     ensures kept { take held input.new ≡ take held input.old }
     ensures behind { held ≤ result.end }
     ensures within { result.end ≤ length input.new }
 {
     let free = &mut input[held..];
-    let got = libc::read(STDIN_FILENO, free);
-    let end = held + io::count(got, free);
-    if got < 0 {
-        os::fail(b"bench: standard input");
-        return Filled {
-            end: end,
-            failed: true,
-        };
-    }
-    Filled {
-        end: end,
-        failed: false,
+    match rt.stdin().read(free) {
+        Ok(count) => Filled {
+            end: held + count,
+            failed: false,
+        },
+        Err(e) => {
+            let _ = eprintln!(rt; "bench: standard input: {e}");
+            Filled {
+                end: held,
+                failed: true,
+            }
+        }
     }
 }
 
@@ -146,6 +147,7 @@ struct Drained {
 // Takes chunk after chunk and sends its lines, until no whole record is left. Behind a write that failed nothing is
 // sent, and the records are taken all the same.
 fn drain(
+    rt: HostRuntime,
     before: State,
     memory: &mut [u8],
     bytes: &[u8],
@@ -167,7 +169,7 @@ fn drain(
         let more = taken.read;
         let end = taken.written;
         state = taken.state;
-        sent = sending::send(sent, &output[0..end]);
+        sent = sending::send(rt, sent, &output[0..end]);
         read += more;
         if more == 0 {
             break;
@@ -181,11 +183,11 @@ fn drain(
 }
 
 // Sends the last line.
-fn finish(state: State, output: &mut [u8], earlier: Sent) -> Sent
+fn finish(rt: HostRuntime, state: State, output: &mut [u8], earlier: Sent) -> Sent
     requires { 86 ≤ length output.old }
     ensures output { output.new ≡ put output.old 0 (closing state) }
     ensures sent { Sends earlier (length (closing state)) result }
 {
     let end = transcript::last_line(state, output);
-    sending::send(earlier, &output[0..end])
+    sending::send(rt, earlier, &output[0..end])
 }

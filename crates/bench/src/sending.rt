@@ -2,7 +2,7 @@
 ghost use Rattle.std.specs.Prelude.{◌≡◌, ◌+◌, length};
 ghost use Rattle.bench.specs.Sending.{capped, nothing_sent, Sends};
 
-use libc::STDOUT_FILENO;
+use std::io::Write;
 
 // How many bytes were handed over, and whether a write failed.
 #[derive(Clone, Copy)]
@@ -27,22 +27,24 @@ pub fn failed(sent: Sent) -> bool
 }
 
 // The text written whole, or the error told on standard error. Behind a write that failed nothing is written.
-pub fn send(before: Sent, text: &[u8]) -> Sent
+pub fn send(rt: HostRuntime, before: Sent, text: &[u8]) -> Sent
     ensures { Sends before (length text.now) result }
 {
     if before.failed {
         return before;
     }
-    if io::write_all(STDOUT_FILENO, text) {
-        return Sent {
+    match rt.stdout().write_all(text) {
+        Ok(()) => Sent {
             bytes: more(before.bytes, text.len()),
             failed: false,
-        };
-    }
-    os::fail(b"bench: standard output");
-    Sent {
-        bytes: before.bytes,
-        failed: true,
+        },
+        Err(e) => {
+            let _ = eprintln!(rt; "bench: standard output: {e}");
+            Sent {
+                bytes: before.bytes,
+                failed: true,
+            }
+        }
     }
 }
 
