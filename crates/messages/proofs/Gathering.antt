@@ -212,7 +212,7 @@ module _ (most time : ℕ) (r : Receiver) (m : List ℕ) (k : Key) (i since last
   held_fits : length sofar ≤ 1024
   held_fits =
       (gathering_of most r.setup k last unit (length sofar)
-      (ap (right_slot most r.setup) (sym G.state) ∙ (right_of most r G.right).each i G.slot)).0.held_High
+      (ap (right_slot most r.setup) (sym G.state) ∙ (right_of most r G.right).each i G.slot)).0.held_high
 
   -- it has another slot, if it has one
   apart : (j : ℕ) → has_key (key_of p) (slot_at r.slots j) ≡ true → i ≡ j → ⊥

@@ -1,6 +1,6 @@
 -- How a state changes: set-up, a slot set anew, a packet or a message counted, a slot freed.
 -- Assumes nothing.
-use Rattle.std.specs.Prelude.{ℕ, ◌&&◌, List, [], ◌∷◌, set, nat_lt, slice_set}
+use Rattle.std.specs.Prelude.{ℕ, ◌&&◌, List, [], ◌∷◌, nat_lt, slice_set}
 use Rattle.octets.specs.Choice.{pick}
 use Rattle.slots.specs.declared.state.Setup.{Setup}
 use Rattle.slots.specs.declared.state.Slot.{Slot}

@@ -1,6 +1,6 @@
 -- `slots::age::expired` meets its contract. The invariant: the slots that were looked through are as they are to be.
 -- Assumes nothing.
-use Rattle.std.proofs.Common.{◌≡◌, ℕ, suc, ◌-◌, ◌≤◌, Bool, true, false, sym, refl, ap, ◌∙◌, ⊎_elim, add-one, arith, rules}
+use Rattle.std.proofs.Common.{◌≡◌, ℕ, suc, Bool, true, false, sym, refl, ap, ◌∙◌, add-one, arith}
 use Rattle.octets.specs.Choice.{pick}
 use Rattle.slots.specs.declared.state.Setup.{Setup}
 use Rattle.slots.specs.declared.state.Receiver.{Receiver}
@@ -9,6 +9,7 @@ use Rattle.slots.specs.Changes.{with_slot}
 use Rattle.slots.specs.Ages.{too_old, old_at, expired_to}
 use Rattle.slots.proofs.Ages.{expired_setup}
 use Rattle.slots.proofs.age.expired.Goals as goal
+use Rattle.slots.proofs.age.expired.Goals.{then-too_old, else-too_old}
 
 -- the next slot is freed, or left
 next_to : (time : ℕ) (r q : Receiver) (n : ℕ) (b : Bool) → q ≡ expired_to time r n → old_at time q n ≡ b
@@ -34,11 +35,12 @@ loop-slot-preserved c =
     ∙ e in (
       omega arith,
       rw add-one
-          (⊎_elim
-          (λ t. t.2 ∙ t.1.ensures
-          ∙ next_to a.time a.receiver c.loop-slot.next c.loop-slot.slot true c.loop-slot.invariant.1 (old true t.0.taken))
-          (λ t. t.1 ∙ next_to a.time a.receiver c.loop-slot.next c.loop-slot.slot false c.loop-slot.invariant.1 (old false t.0.left))
-          c.if-too_old.branch),
+          (elim c.if-too_old.branch [
+            | then-too_old w ↦ w.next-is ∙ w.with_slot-next.ensures
+                ∙ next_to a.time a.receiver c.loop-slot.next c.loop-slot.slot true c.loop-slot.invariant.1 (old true w.if-too_old.true)
+            | else-too_old w ↦ w.next-is
+                ∙ next_to a.time a.receiver c.loop-slot.next c.loop-slot.slot false c.loop-slot.invariant.1 (old false w.if-too_old.false)
+          ]),
     )
 
 pub returns : goal.returns

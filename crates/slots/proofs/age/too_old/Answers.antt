@@ -1,6 +1,5 @@
 -- `slots::age::too_old` meets its contract.
 -- Assumes nothing.
-use Rattle.std.proofs.Common.{rules}
 use Rattle.slots.proofs.age.too_old.Goals as goal
 
 pub returns-in-Gathering : goal.returns-in-Gathering

@@ -1,7 +1,7 @@
 -- `slots::change::free_within` meets its contract.
 -- Assumes nothing.
 use Rattle.slots.specs.Changes.{free_refusal, freed_of}
-use Rattle.std.proofs.Common.{sym, rules}
+use Rattle.std.proofs.Common.{sym}
 use Rattle.slots.proofs.change.free_within.Goals as goal
 
 pub returns-then-right_within-slot : goal.returns-then-right_within-slot

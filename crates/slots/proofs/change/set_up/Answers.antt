@@ -1,6 +1,6 @@
 -- `slots::change::set_up` meets its contract.
 -- Assumes nothing.
-use Rattle.std.proofs.Common.{sym, ◌∙◌, rules}
+use Rattle.std.proofs.Common.{sym, ◌∙◌}
 use Rattle.slots.specs.Changes.{set_up_refusal, set_up_of}
 use Rattle.slots.proofs.change.set_up.Goals as goal
 

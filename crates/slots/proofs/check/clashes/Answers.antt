@@ -1,7 +1,6 @@
 -- `slots::check::clashes` meets its contract.
 -- Assumes nothing.
 use Rattle.slots.specs.State.{clash}
-use Rattle.std.proofs.Common.{rules}
 use Rattle.slots.proofs.check.clashes.Goals as goal
 
 pub returns-in-Free : goal.returns-in-Free

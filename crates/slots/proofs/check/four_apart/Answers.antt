@@ -1,6 +1,5 @@
 -- `slots::check::four_apart` meets its contract: six pairs.
 -- Assumes nothing.
-use Rattle.std.proofs.Common.{rules}
 use Rattle.slots.proofs.check.four_apart.Goals as goal
 
 pub returns : goal.returns

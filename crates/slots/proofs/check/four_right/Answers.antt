@@ -1,6 +1,5 @@
 -- `slots::check::four_right` meets its contract.
 -- Assumes nothing.
-use Rattle.std.proofs.Common.{rules}
 use Rattle.slots.proofs.check.four_right.Goals as goal
 
 pub returns : goal.returns

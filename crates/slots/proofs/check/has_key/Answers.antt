@@ -1,6 +1,5 @@
 -- `slots::check::has_key` meets its contract.
 -- Assumes nothing.
-use Rattle.std.proofs.Common.{rules}
 use Rattle.slots.proofs.check.has_key.Goals as goal
 
 pub returns-in-Gathering : goal.returns-in-Gathering

@@ -1,6 +1,6 @@
 -- `slots::check::is_multiple` meets its contract: a unit of 0 has no multiples.
 -- Assumes nothing.
-use Rattle.std.proofs.Common.{rules, le-leb}
+use Rattle.std.proofs.Common.{le-leb}
 use borrow.Author.Tests.{lt-leb}
 use Rattle.slots.specs.State.{multiple}
 use Rattle.slots.proofs.check.is_multiple.Goals as goal

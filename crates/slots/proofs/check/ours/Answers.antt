@@ -1,6 +1,5 @@
 -- `slots::check::ours` meets its contract.
 -- Assumes nothing.
-use Rattle.std.proofs.Common.{rules}
 use Rattle.slots.proofs.check.ours.Goals as goal
 
 pub returns : goal.returns

@@ -1,7 +1,6 @@
 -- `slots::check::right_numbers` meets its contract.
 -- Assumes nothing.
 use Rattle.slots.specs.State.{right_numbers}
-use Rattle.std.proofs.Common.{rules}
 use Rattle.slots.proofs.check.right_numbers.Goals as goal
 
 pub returns : goal.returns

@@ -1,7 +1,6 @@
 -- `slots::check::right_slot` meets its contract.
 -- Assumes nothing.
 use Rattle.slots.specs.State.{right_slot}
-use Rattle.std.proofs.Common.{rules}
 use Rattle.slots.proofs.check.right_slot.Goals as goal
 
 pub returns-in-Free : goal.returns-in-Free

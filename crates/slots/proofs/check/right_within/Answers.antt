@@ -1,7 +1,6 @@
 -- `slots::check::right_within` meets its contract: an array of four has four slots.
 -- Assumes nothing.
-use Rattle.std.proofs.Common.{◌≡◌, Bool, ◌&&◌, length, sym, ap, ◌∙◌, rules, eq-eqb}
-use lib.ListN.{length-map}
+use Rattle.std.proofs.Common.{◌≡◌, Bool, ◌&&◌, length, sym, ap, eq-eqb}
 use mathlib.Core.Bool.{and-true, and_assoc}
 use Rattle.mctp.specs.Packet.{body_right}
 use Rattle.slots.specs.Setup.{right_setup}
@@ -16,7 +15,7 @@ returns c =
     let most = c.args.most in
     let r = c.args.receiver in
     let slots = r.slots in
-    let four : length slots ≡ 4 = sym (length-map slots _) ∙ c.good.1.0.1.1.1.0.1.0.1 in
+    let four : length slots ≡ 4 = c.well_formed.1.0.1.1.1.0.1.0.1 in
     let each = four_right most r.setup (slot_at slots 0) (slot_at slots 1) (slot_at slots 2) (slot_at slots 3) in
     let apart = four_apart (slot_at slots 0) (slot_at slots 1) (slot_at slots 2) (slot_at slots 3) in
     rw (

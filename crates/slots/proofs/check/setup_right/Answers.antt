@@ -1,6 +1,5 @@
 -- `slots::check::setup_right` meets its contract.
 -- Assumes nothing.
-use Rattle.std.proofs.Common.{rules}
 use Rattle.slots.proofs.check.setup_right.Goals as goal
 
 pub returns : goal.returns

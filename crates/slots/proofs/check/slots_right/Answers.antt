@@ -1,6 +1,6 @@
 -- `slots::check::slots_right` meets its contract.
 -- Assumes nothing.
-use Rattle.std.proofs.Common.{sym, arith, rules}
+use Rattle.std.proofs.Common.{sym, arith}
 use mathlib.Core.Bool.{and-true}
 use Rattle.slots.proofs.Gathering.{none_gathers, one_gathers}
 use Rattle.slots.proofs.check.slots_right.Goals as goal

@@ -1,8 +1,8 @@
 -- `slots::find::lowest_free` meets its contract. The invariant: the slots that are left have the answer.
 -- Assumes nothing.
-use Rattle.std.proofs.Common.{◌≡◌, ◌-◌, sym, refl, ◌∙◌, arith, rules}
+use Rattle.std.proofs.Common.{sym, refl, ◌∙◌, arith}
 use Rattle.slots.specs.Slots.{is_free, lowest_free}
-use Rattle.slots.proofs.Found.{Looking, found_here, look_on, none_left}
+use Rattle.slots.proofs.Found.{found_here, look_on, none_left}
 use Rattle.slots.proofs.find.lowest_free.Goals as goal
 
 pub loop-slot-init : goal.loop-slot-init

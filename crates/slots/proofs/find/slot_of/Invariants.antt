@@ -1,8 +1,8 @@
 -- `slots::find::slot_of` meets its contract. The invariant: the slots that are left have the answer.
 -- Assumes nothing.
-use Rattle.std.proofs.Common.{◌≡◌, ◌-◌, sym, refl, ◌∙◌, arith, rules}
+use Rattle.std.proofs.Common.{◌-◌}
 use Rattle.slots.specs.Slots.{has_key, slot_of}
-use Rattle.slots.proofs.Found.{Looking, found_here, look_on, none_left}
+use Rattle.slots.proofs.Found.{Looking}
 use Rattle.slots.proofs.find.slot_of.Given as goal
 
 abbrev pub invariant-loop-slot : goal.invariant-loop-slot

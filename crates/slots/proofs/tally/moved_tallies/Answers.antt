@@ -1,6 +1,5 @@
 -- `slots::tally::moved_tallies` meets its contract.
 -- Assumes nothing.
-use Rattle.std.proofs.Common.{rules}
 use Rattle.slots.proofs.tally.moved_tallies.Goals as goal
 
 pub returns : goal.returns

@@ -1,6 +1,5 @@
 -- `slots::tally::right_tallies` meets its contract: four numbers of at most 65,535.
 -- Assumes nothing.
-use Rattle.std.proofs.Common.{rules}
 use Rattle.slots.proofs.tally.right_tallies.Goals as goal
 
 pub returns : goal.returns

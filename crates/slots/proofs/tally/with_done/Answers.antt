@@ -1,6 +1,5 @@
 -- `slots::tally::with_done` meets its contract.
 -- Assumes nothing.
-use Rattle.std.proofs.Common.{rules}
 use Rattle.slots.proofs.tally.with_done.Goals as goal
 
 pub returns : goal.returns
