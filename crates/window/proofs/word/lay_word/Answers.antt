@@ -1,0 +1,12 @@
+-- `window::word::lay_word` meets its contract.
+-- Assumes nothing.
+use Rattle.window.proofs.word.lay_word.Goals as goal
+
+pub returns : goal.returns
+returns c =
+    rw (
+      c.lay_high_first.ensures,
+      c.word_place.ensures,
+      c.number-n.ensures,
+      c.cleared.ensures,
+    )
