@@ -8,7 +8,6 @@ use lib.Dec.{eqb}
 use lib.ListN.{length, take}
 use Rattle.pec.specs.Remainder.{pec_of}
 use Rattle.smbus.specs.Reading.{end_of, before_end}
-use borrow.Author.Rules.{rules}
 use Rattle.smbus.proofs.reading.ends_right.Goals as goal
 
 pub returns : goal.returns

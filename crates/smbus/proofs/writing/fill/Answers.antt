@@ -7,10 +7,9 @@ use Rattle.pec.specs.Remainder.{pec_of}
 use Rattle.smbus.specs.Layout.{covered_of}
 use mathlib.Core.Path.{◌≡◌, sym, ap, ◌∙◌}
 use native.Mathlib.Omega.{arith}
-use lib.ListN.{length, set, length-set, length-append}
+use lib.ListN.{length, set, length-append}
 use Rattle.octets.proofs.Laid.{laid-length}
 use Rattle.smbus.proofs.Framing.{covered_apart, covered_laid, frame_laid}
-use borrow.Author.Rules.{rules}
 use Rattle.smbus.proofs.writing.fill.Goals as goal
 
 pub bounds-out-size : goal.bounds-out-size
