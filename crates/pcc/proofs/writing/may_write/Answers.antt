@@ -14,22 +14,19 @@ returns-then-not-body_right c =
 
 pub returns-then-id-gt255 : goal.returns-then-id-gt255
 returns-then-id-gt255 c =
-    let body : body_right c.args.most ≡ true =
-    sym c.body_right.ensures ∙ c.if-not-body_right.false in
+    let body : body_right c.args.most ≡ true = sym c.body_right.ensures ∙ c.if-not-body_right.false in
     let b = body in sym (unwritten_at _ _ _ _ 1 (omega (arith, tests)))
 
 pub returns-then-not-size_right : goal.returns-then-not-size_right
 returns-then-not-size_right c =
-    let body : body_right c.args.most ≡ true =
-    sym c.body_right.ensures ∙ c.if-not-body_right.false in
+    let body : body_right c.args.most ≡ true = sym c.body_right.ensures ∙ c.if-not-body_right.false in
     let b = body in
     let s = sym c.size_right.ensures ∙ c.if-not-size_right.true in
     sym (unwritten_at _ _ _ _ 2 (omega (arith, tests)))
 
 pub returns-then-room-lt84 : goal.returns-then-room-lt84
 returns-then-room-lt84 c =
-    let body : body_right c.args.most ≡ true =
-    sym c.body_right.ensures ∙ c.if-not-body_right.false in
+    let body : body_right c.args.most ≡ true = sym c.body_right.ensures ∙ c.if-not-body_right.false in
     let sized : let a = c.args in
     (body_right a.most ≡ true) × (size_right a.most a.size ≡ true) =
     (body, sym c.size_right.ensures ∙ c.if-not-size_right.false) in
@@ -37,8 +34,7 @@ returns-then-room-lt84 c =
 
 pub returns-then-room-size : goal.returns-then-room-size
 returns-then-room-size c =
-    let body : body_right c.args.most ≡ true =
-    sym c.body_right.ensures ∙ c.if-not-body_right.false in
+    let body : body_right c.args.most ≡ true = sym c.body_right.ensures ∙ c.if-not-body_right.false in
     let sized : let a = c.args in
     (body_right a.most ≡ true) × (size_right a.most a.size ≡ true) =
     (body, sym c.size_right.ensures ∙ c.if-not-size_right.false) in
@@ -46,8 +42,7 @@ returns-then-room-size c =
 
 pub returns : goal.returns
 returns c =
-    let body : body_right c.args.most ≡ true =
-    sym c.body_right.ensures ∙ c.if-not-body_right.false in
+    let body : body_right c.args.most ≡ true = sym c.body_right.ensures ∙ c.if-not-body_right.false in
     let sized : let a = c.args in
     (body_right a.most ≡ true) × (size_right a.most a.size ≡ true) =
     (body, sym c.size_right.ensures ∙ c.if-not-size_right.false) in
