@@ -1,19 +1,14 @@
 -- Answers: each is told by its number and values, and one that is no packet leaves the output.
 -- Assumes nothing.
 use mathlib.Core.Path.{◌≡◌, refl, ap}
-use mathlib.Core.List.{List, [], ◌∷◌}
-use mathlib.Core.Logic.{⊎_elim}
+use mathlib.Core.List.{List}
 use Prim.Native.Nat.{ℕ}
-use native.Mathlib.Omega.{arith}
-use types.Run.{OneOf}
-use denote.Enum.Declared.{tag_of}
 use Rattle.mctp.specs.Refusals.{number_of}
 use Rattle.mctp.proofs.Refusals.{number_injective}
 use Rattle.ring.specs.declared.answer.Carried.{Carried}
 use Rattle.ring.specs.declared.answer.Carried.TheVariants as carried
 use Rattle.ring.specs.declared.answer.Written.{Written}
 use Rattle.ring.specs.declared.answer.Written.TheVariants as written
-use Rattle.ring.specs.contracts.answer.Carried.{the_type}
 use Rattle.ring.specs.Reading.{output_after}
 use Rattle.ring.specs.Answers.{found_in, entered_in}
 
@@ -50,11 +45,10 @@ entered_injective (written.Refused m) (written.Refused n) e =
     let same : number_of m ≡ number_of n = cc in
     ap written.Refused (number_injective m n same)
 
--- the second, third and fourth kind of answer copy nothing
-pub not_copied : (t : Carried) (s out : List ℕ) → OneOf (1 ∷ 2 ∷ 3 ∷ []) (tag_of the_type t)
+-- an answer that is no packet copies nothing
+pub not_copied : (t : Carried) (s out : List ℕ) → ((size next : ℕ) → t ≡ carried.Packet size next → ⊥)
     → output_after (found_in t) s out ≡ out
-not_copied (carried.Packet size next) s out tag =
-    ⊎_elim (λ h. absurd (omega arith)) (⊎_elim (λ h. absurd (omega arith)) (λ h. absurd (omega arith))) tag
-not_copied carried.Empty s out tag = refl
-not_copied (carried.Skipped why next) s out tag = refl
-not_copied (carried.Refused why) s out tag = refl
+not_copied (carried.Packet size next) s out other = absurd (other size next refl)
+not_copied carried.Empty s out other = refl
+not_copied (carried.Skipped why next) s out other = refl
+not_copied (carried.Refused why) s out other = refl

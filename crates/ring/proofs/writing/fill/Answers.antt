@@ -15,9 +15,7 @@ use Rattle.ring.specs.Round.{stored}
 use Rattle.ring.proofs.Numbers.{next_below}
 use Rattle.octets.proofs.Words.{word-length}
 use Rattle.ring.proofs.Rounds.{stored_straight, stored_stored}
-use borrow.Author.Rules.{rules}
-use Rattle.ring.proofs.writing.fill.Statement.{statement}
-use Rattle.ring.proofs.writing.fill.Tie as tie
+use Rattle.ring.proofs.writing.fill.Goals as goal
 
 abbrev zeros : List ℕ
 zeros = 0 ∷ 0 ∷ 0 ∷ []
@@ -58,70 +56,31 @@ module _ (ring : List ℕ) (p : ℕ) (straight : p + 4 ≤ length ring) where
         let s3 = piece (w ++ header ++ body) pad s2 three e3 (omega arith) (rw front at f3) in
         rw (length-append header body, ← ew, ← ep) (s3 ∙ simp append_assoc)
 
--- the start, and where padding, header and the packet's pieces came in, each from the place behind it
-abbrev start : tie.After-padding-for → tie.Start
-start c = c.before.before.before.before
-
-abbrev padded : tie.After-lay-high-first → tie.After-padding-for
-padded c = c.before.before.before
-
-abbrev headed : tie.After-next → tie.After-lay-high-first
-headed c = c.before.before.before.before
-
-abbrev copied : tie.After-next2 → tie.After-copy-in
-copied c = c.before.before.before.before
-
-abbrev joined : tie.After-next3 → tie.After-copy-in2
-joined c = c.before.before.before.before
-
-copy-in-requires : tie.Need-copy-in-requires
-copy-in-requires c κs =
-    let a = (start (padded (headed c))).args in
-    let kept = (headed c).lay-high-first.auto.0 in (
+pub copy_in-requires : goal.copy_in-requires
+copy_in-requires c =
+    let a = c.args in (
       omega (arith, next_below (length a.ring.now) a.write 4 (omega arith)),
       omega arith,
     )
 
-copy-in-requires-2 : tie.Need-copy-in-requires-2
-copy-in-requires-2 c κs =
-    let h = headed (copied c).before in
-    let a = (start (padded h)).args in
-    let kept = h.lay-high-first.kept.0 in
-    let again = (copied c).copy-in.auto.0 in (
+pub copy_in-requires-2 : goal.copy_in-requires-2
+copy_in-requires-2 c =
+    let a = c.args in (
       omega (arith, next_below (length a.ring.now) a.write (4 + length a.header.now) (omega arith)),
       omega arith,
     )
 
-copy-in-requires-3 : tie.Need-copy-in-requires-3
-copy-in-requires-3 c κs =
-    let n = c.before.before in
-    let m = (joined n).before in
-    let h = headed (copied m).before in
-    let a = (start (padded h)).args in
-    let kept = h.lay-high-first.kept.0 in
-    let again = (copied m).copy-in.kept.0 in
-    let last = (joined n).copy-in2.auto.0 in
+pub copy_in-requires-3 : goal.copy_in-requires-3
+copy_in-requires-3 c =
+    let a = c.args in
     let size = length a.header.now + length a.body.now in (
       omega (arith, next_below (length a.ring.now) a.write (4 + size) (omega arith)),
-      omega (arith, length-take ((padded h).padding-for.result - 0) zeros),
+      omega (arith, length-take (c.padding_for-padding.result - 0) zeros),
     )
 
-returns : tie.Need-returns
+pub returns : goal.returns
 returns c =
-    let n = c.before.before.before.before.before in
-    let m = (joined n).before in
-    let first = (copied m).before in
-    let h = headed first in
-    let s = start (padded h) in
-    steps s.args.ring.now s.args.write s.pre.1 s.args.header.now s.args.body.now s.pre.3
-    h.before.header-for.ensures (padded h).padding-for.ensures first.next.ensures m.next2.ensures
-    n.next3.ensures h.lay-high-first.ensures (copied m).copy-in.ensures (joined n).copy-in2.ensures
-    c.before.before.copy-in3.ensures
-
-pub fill_spec : {M : Type 1} → statement M
-fill_spec =
-    tie.close
-    (tie.spec (λ c. search rules) (λ c κs. search rules) (λ c κs. search rules) (λ c κs. search rules)
-    (λ c κs. search rules) copy-in-requires (λ c. search rules) (λ c κs. search rules) copy-in-requires-2
-    (λ c. search rules) (λ c κs. search rules) (λ c. search rules) (λ c. search rules) (λ c. search rules)
-    copy-in-requires-3 (λ c. search rules) returns)
+    steps c.args.ring.now c.args.write c.requires.1 c.args.header.now c.args.body.now c.requires.3
+    c.header_for.ensures c.padding_for-padding.ensures c.next.ensures c.next-2.ensures
+    c.next-3.ensures c.lay_high_first.ensures c.copy_in.ensures c.copy_in-2.ensures
+    c.copy_in-3.ensures
