@@ -20,16 +20,17 @@ use Rattle.pcc.proofs.Readings.{Good, good_number, good_size}
 module _ (most : ℕ) (region : List ℕ) (id : ℕ) where
   -- the three promises of `read`
   abbrev pub Says : Carried → Type 0
-  Says answer =
-      (number_read answer ≡ refusal_of most region id)
-      × ((size_read answer ≡ size_of most region id)
-      × (notify_read answer ≡ notify_of most region id))
+  Says answer = record {
+    number : number_read answer ≡ refusal_of most region id;
+    size : size_read answer ≡ size_of most region id;
+    notify : notify_read answer ≡ notify_of most region id;
+  }
 
   -- a good region gives what its words say
   pub says_good : Good most region id
       → Says (Packet (word_at low_first region 8 - 4) (eqb (word_at low_first region 4 % 2) 1))
   unfolding notify_of
-  says_good g = let e = good_number most region id g in (sym e, (sym (good_size most region id e), rw e))
+  says_good g = let e = good_number most region id g in record { number = sym e; size = sym (good_size most region id e); notify = rw e }
 
   -- a refused one gives no byte and a clear flag
   module _ (refused : refusal_of most region id ≡ 0 → ⊥) where
@@ -47,16 +48,16 @@ module _ (most : ℕ) (region : List ℕ) (id : ℕ) where
   pub says_refused : (why : Refusal) → refusal_of most region id ≡ number_of why → Says (Refused why)
   says_refused why e =
       let refused : refusal_of most region id ≡ 0 → ⊥ = λ z. omega (arith, number_positive why) in
-      (sym e, (sym (no_size refused), sym (no_notify refused)))
+      record { number = sym e; size = sym (no_size refused); notify = sym (no_notify refused) }
 
   -- an answer says the same once it is known which it is
   module _ {answer known : Carried} (says : Says answer) (is : answer ≡ known) where
     pub told_number : number_read known ≡ refusal_of most region id
-    told_number = sym (ap number_read is) ∙ says.0
+    told_number = sym (ap number_read is) ∙ says.number
 
     pub told_notify : notify_read known ≡ notify_of most region id
-    told_notify = sym (ap notify_read is) ∙ says.1.1
+    told_notify = sym (ap notify_read is) ∙ says.notify
 
     -- the part of the size that it says is the packet
     pub told_packet : part_of region (size_read known) ≡ packet_of most region id
-    told_packet = ap (part_of region) (sym (ap size_read is) ∙ says.1.0)
+    told_packet = ap (part_of region) (sym (ap size_read is) ∙ says.size)

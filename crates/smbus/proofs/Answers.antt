@@ -26,7 +26,10 @@ named why e z = omega (arith, number_positive why)
 module _ (most : ℕ) (frame : List ℕ) (own : ℕ) where
   -- the two promises of `read`
   abbrev pub Says : Carried → Type 0
-  Says answer = (number_read answer ≡ refusal_of most frame own) × (source_read answer ≡ source_address_of most frame own)
+  Says answer = record {
+    number : number_read answer ≡ refusal_of most frame own;
+    source : source_read answer ≡ source_address_of most frame own;
+  }
 
   module _ (e : refusal_of most frame own ≡ 0) where
     -- a good frame gives its part and its sender
@@ -39,7 +42,7 @@ module _ (most : ℕ) (frame : List ℕ) (own : ℕ) where
     good_source = rw e
 
     pub says_good : Says (Packet (get_or frame 3 0 / 2))
-    says_good = (sym e, sym good_source)
+    says_good = record { number = sym e; source = sym good_source }
 
   module _ (why : Refusal) (e : refusal_of most frame own ≡ number_of why) where
     -- a refused one gives nothing, and 0
@@ -52,24 +55,24 @@ module _ (most : ℕ) (frame : List ℕ) (own : ℕ) where
     no_source = rw (ne_eqb (refusal_of most frame own) 0 (named why e))
 
     pub says_refused : Says (Refused why)
-    says_refused = (sym e, sym no_source)
+    says_refused = record { number = sym e; source = sym no_source }
 
   module _ (answer : Carried) (says : Says answer) where
     -- an answer with a packet is that of a good frame
     module _ (a : ℕ) (is : answer ≡ Packet a) where
       pub told_good : refusal_of most frame own ≡ 0
-      told_good = sym says.0 ∙ ap number_read is
+      told_good = sym says.number ∙ ap number_read is
 
       pub told_packet : packet_of most frame own ≡ part_of frame
       told_packet = good_packet told_good
 
       pub told_source : source_address_of most frame own ≡ a
-      told_source = sym says.1 ∙ ap source_read is
+      told_source = sym says.source ∙ ap source_read is
 
     -- any other answer names the number
     module _ (why : Refusal) (is : answer ≡ Refused why) where
       pub told_number : refusal_of most frame own ≡ number_of why
-      told_number = sym says.0 ∙ ap number_read is
+      told_number = sym says.number ∙ ap number_read is
 
       pub told_no_packet : packet_of most frame own ≡ []
       told_no_packet = no_packet why told_number
@@ -83,10 +86,11 @@ module _ (most : ℕ) (out packet : List ℕ) (destination source : ℕ) where
 
   -- the three promises of `write`
   abbrev Wrote : Written → List ℕ → Type 0
-  Wrote answer after =
-      (number_written answer ≡ number)
-      × ((size_written answer ≡ size_of most (length out) (length packet) destination source)
-      × (after ≡ written_of most out packet destination source))
+  Wrote answer after = record {
+    number : number_written answer ≡ write_refusal most (length out) (length packet) destination source;
+    size : size_written answer ≡ size_of most (length out) (length packet) destination source;
+    output : after ≡ written_of most out packet destination source;
+  }
 
   -- the output, where a packet may be written and where not
   pub output_written_lem : number ≡ 0
@@ -101,8 +105,12 @@ module _ (most : ℕ) (out packet : List ℕ) (destination source : ℕ) where
   pub says_written : number ≡ 0
       → Wrote (written.Frame (frame_size (length packet))) (fronted out (frame_of destination source packet))
   unfolding size_of
-  says_written e = (sym e, (rw e, sym (output_written_lem e)))
+  says_written e = record { number = sym e; size = rw e; output = sym (output_written_lem e) }
 
   pub says_unwritten : (why : Refusal) → number ≡ number_of why → Wrote (written.Refused why) out
   unfolding size_of
-  says_unwritten why e = (sym e, (rw (ne_eqb number 0 (named why e)), sym (output_unwritten (named why e))))
+  says_unwritten why e = record {
+    number = sym e;
+    size = rw (ne_eqb number 0 (named why e));
+    output = sym (output_unwritten (named why e));
+  }

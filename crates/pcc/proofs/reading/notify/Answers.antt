@@ -1,7 +1,6 @@
 -- `pcc::reading::notify` meets its contract.
 -- Assumes nothing.
 use Rattle.pcc.proofs.Answers.{told_notify}
-use borrow.Author.Rules.{rules}
 use Rattle.pcc.proofs.reading.notify.Goals as goal
 
 pub returns-in-Packet : goal.returns-in-Packet

@@ -2,7 +2,6 @@
 -- Assumes nothing.
 use mathlib.Core.Path.{◌∙◌}
 use Rattle.pcc.proofs.Answers.{told_number}
-use borrow.Author.Rules.{rules}
 use Rattle.pcc.proofs.reading.refusal.Goals as goal
 
 pub returns-in-Packet : goal.returns-in-Packet

@@ -4,7 +4,6 @@ use Prim.Native.Nat.{◌+◌, ◌≤◌}
 use native.Mathlib.Omega.{arith}
 use lib.ListN.{length}
 use Rattle.pcc.proofs.Writings.{filled}
-use borrow.Author.Rules.{rules}
 use Rattle.pcc.proofs.writing.fill.Goals as goal
 
 -- the places after the body, the header and each word, from the last to the first

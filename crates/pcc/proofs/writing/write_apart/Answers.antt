@@ -12,7 +12,6 @@ use Rattle.mctp.specs.Refusals.{number_of, outcome_number}
 use Rattle.mctp.proofs.Refusals.{number_positive}
 use Rattle.pcc.specs.Writing.{write_refusal}
 use Rattle.pcc.proofs.Writings.{good, written_whole, written_refused}
-use borrow.Author.Rules.{rules}
 use Rattle.pcc.proofs.writing.write_apart.Goals as goal
 
 -- a refusal's number, which is not 0

@@ -8,13 +8,11 @@ use lib.Dec.{eqb}
 use lib.ListN.{length, take}
 use Rattle.pec.specs.Remainder.{pec_of}
 use Rattle.smbus.specs.Reading.{end_of, before_end}
-use borrow.Author.Rules.{rules}
 use Rattle.smbus.proofs.reading.ends_right.Goals as goal
 
 pub returns : goal.returns
 unfolding end_of before_end
 returns c =
-    let frame : List ℕ =
-    c.args.frame.now in
+    let frame : List ℕ = c.args.frame.now in
     ap (λ (n : ℕ). eqb (end_of frame) n)
     (c.pec.ensures ∙ ap (λ (n : ℕ). pec_of (take n frame)) (sub-zero (length frame - 1)))

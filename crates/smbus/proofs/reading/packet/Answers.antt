@@ -2,7 +2,6 @@
 -- Assumes nothing.
 use mathlib.Core.Path.{sym, ◌∙◌}
 use Rattle.smbus.proofs.Answers.{told_packet, told_no_packet}
-use borrow.Author.Rules.{rules}
 use Rattle.smbus.proofs.reading.packet.Goals as goal
 
 pub returns-in-Packet : goal.returns-in-Packet

@@ -2,7 +2,6 @@
 -- Assumes nothing.
 use mathlib.Core.Path.{sym, ◌∙◌}
 use Rattle.smbus.proofs.Answers.{told_good, told_number}
-use borrow.Author.Rules.{rules}
 use Rattle.smbus.proofs.reading.refusal.Goals as goal
 
 pub returns-in-Packet : goal.returns-in-Packet

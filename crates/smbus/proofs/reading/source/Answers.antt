@@ -2,7 +2,6 @@
 -- Assumes nothing.
 use mathlib.Core.Path.{sym}
 use Rattle.smbus.proofs.Answers.{told_source, told_no_source}
-use borrow.Author.Rules.{rules}
 use Rattle.smbus.proofs.reading.source.Goals as goal
 
 pub returns-in-Packet : goal.returns-in-Packet

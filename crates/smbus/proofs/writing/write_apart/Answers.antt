@@ -9,7 +9,6 @@ use Rattle.mctp.specs.Refusals.{outcome_number}
 use Rattle.smbus.specs.Writing.{write_refusal}
 use Rattle.smbus.proofs.Writings.{good}
 use Rattle.smbus.proofs.Answers.{says_written, says_unwritten}
-use borrow.Author.Rules.{rules}
 use Rattle.smbus.proofs.writing.write_apart.Goals as goal
 
 pub fill-requires : goal.fill-requires
@@ -63,13 +62,11 @@ returns-in-Good c =
     ≡ 0 =
     sym number ∙ ap outcome_number c.in-Good.is in
     let a = c.args in
-    let says = says_written _ _ _ _ _ zero in (
-      says.0,
-      (
-        ap (λ (n : ℕ). 5 + n) (sym (length-append a.header.now a.body.now)) ∙ says.1.0,
-        c.fill.ensures ∙ says.1.1,
-      ),
-    )
+    let says = says_written _ _ _ _ _ zero in record {
+      number = says.number;
+      size = ap (λ (n : ℕ). 5 + n) (sym (length-append a.header.now a.body.now)) ∙ says.size;
+      output = c.fill.ensures ∙ says.output;
+    }
 
 pub returns-in-Refused : goal.returns-in-Refused
 returns-in-Refused c =
