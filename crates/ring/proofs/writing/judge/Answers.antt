@@ -52,7 +52,7 @@ overflow_add-whole c =
     let sized : let a = c.args in size_right a.most a.size ≡ true =
     sym c.size_right.ensures ∙ c.if-not-size_right.false in
     let largest : let a = c.args in a.size ≤ 4 + a.most =
-    (within_bounds _ _ _ sized).1 in
+    (within_bounds 5 (4 + c.args.most) c.args.size sized).1 in
     omega (arith, largest, known.high)
 
 pub overflow_add-whole-2 : goal.overflow_add-whole-2
@@ -64,7 +64,7 @@ overflow_add-whole-2 c =
     let sized : let a = c.args in size_right a.most a.size ≡ true =
     sym c.size_right.ensures ∙ c.if-not-size_right.false in
     let largest : let a = c.args in a.size ≤ 4 + a.most =
-    (within_bounds _ _ _ sized).1 in
+    (within_bounds 5 (4 + c.args.most) c.args.size sized).1 in
     omega (arith, largest, known.high)
 
 pub room-room-requires : goal.room-room-requires
