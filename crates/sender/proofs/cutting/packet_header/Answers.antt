@@ -6,20 +6,18 @@ use native.Mathlib.Omega.{arith}
 use lib.Dec.{eqb}
 use Rattle.sender.specs.Cutting.{packet_header}
 use Rattle.sender.proofs.Cuts.{last_is}
-use borrow.Author.Rules.{rules}
-use Rattle.sender.proofs.cutting.packet_header.Statement.{statement}
-use Rattle.sender.proofs.cutting.packet_header.Tie as tie
+use Rattle.sender.proofs.cutting.packet_header.Goals as goal
 
-add-t11 : tie.Need-overflow-add-t11
-add-t11 c =
-    let a = c.before.before.args in
+pub overflow_add-result-2 : goal.overflow_add-result-2
+overflow_add-result-2 c =
+    let a = c.args in
     let k = le-mul_of_pos_right {m = a.most} a.k (omega arith) in
     omega arith
 
-returns : tie.Need-returns
+pub returns : goal.returns
 unfolding packet_header
 returns c =
-    let a = c.before.before.args in
+    let a = c.args in
     let last = last_is a.most a.size a.k (omega arith) (omega arith) in
     λ i. record {
       version = 1;
@@ -28,8 +26,3 @@ returns c =
       sequence = (a.heading.first + a.k) % 4;
       key = a.heading.key;
     }
-
-pub packet-header-spec : {M : Type 1} → statement M
-packet-header-spec =
-    tie.close
-    (tie.spec (λ c. search rules) (λ c. search rules) (λ c. search rules) add-t11 (λ c. search rules) returns)
