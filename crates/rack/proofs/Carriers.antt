@@ -2,16 +2,13 @@
 -- Assumes nothing.
 use mathlib.Core.Path.{◌≡◌, refl, ap, sym, ◌∙◌}
 use mathlib.Core.Bool.{Bool}
-use mathlib.Core.List.{List, [], ◌∷◌}
-use mathlib.Core.Logic.{⊎_elim}
+use mathlib.Core.List.{List}
 use Prim.Native.Nat.{ℕ, ◌+◌, ◌≤◌, ◌<◌}
 use native.Mathlib.Omega.{arith}
 use lib.ListN.{length, take, drop, length-take, length-drop}
 use lib.Seq.{take_at}
 use Rattle.octets.specs.Bytes.{fronted}
 use borrow.Author.Tests.{eq-eqb, ne_eqb}
-use types.Run.{OneOf}
-use denote.Enum.Declared.{tag_of}
 use Rattle.mctp.specs.declared.refusal.Refusal.{Refusal}
 use Rattle.mctp.specs.Refusals.{number_of}
 use Rattle.mctp.proofs.Refusals.{number_positive}
@@ -28,7 +25,6 @@ use Rattle.mmbi.specs.declared.interface.Flags.{Flags}
 use Rattle.mmbi.specs.Interface.{state_of, may_read}
 use Rattle.ring.specs.declared.answer.Carried as ring
 use Rattle.ring.specs.declared.answer.Carried.TheVariants as ring-case
-use Rattle.ring.specs.contracts.answer.Carried.{the_type}
 use Rattle.ring.specs.Round.{round_from}
 use Rattle.ring.specs.Layout as ring_layout
 use Rattle.ring.specs.Reading as ring-says
@@ -76,13 +72,12 @@ module _ (most : ℕ) (r : List ℕ) (id : ℕ) (c : pcc.Carried) (says : pcc-sa
       rw (eq-eqb (region.refusal_of most r id) 0 z, p, f)
 
 -- the second, third and fourth kind of a ring's answer
-says_none : (s : List ℕ) (t : ring.Carried) → OneOf (1 ∷ 2 ∷ 3 ∷ []) (tag_of the_type t)
+says_none : (s : List ℕ) (t : ring.Carried) → ((size next : ℕ) → t ≡ ring-case.Packet size next → ⊥)
     → found_brings s (found_in t) ≡ none (without (why_ring t))
-says_none s (ring-case.Packet size next) tag =
-    ⊎_elim (λ h. absurd (omega arith)) (⊎_elim (λ h. absurd (omega arith)) (λ h. absurd (omega arith))) tag
-says_none s ring-case.Empty tag = refl
-says_none s (ring-case.Skipped why next) tag = refl
-says_none s (ring-case.Refused why) tag = refl
+says_none s (ring-case.Packet size next) other = absurd (other size next refl)
+says_none s ring-case.Empty other = refl
+says_none s (ring-case.Skipped why next) other = refl
+says_none s (ring-case.Refused why) other = refl
 
 module _
     (most : ℕ)
@@ -105,9 +100,9 @@ module _
       unfolding ring_brings
       ring_brings_lem = ap (found_brings (round_from read bytes)) said
 
-    pub ring_none : OneOf (1 ∷ 2 ∷ 3 ∷ []) (tag_of the_type t)
+    pub ring_none : ((size next : ℕ) → t ≡ ring-case.Packet size next → ⊥)
         → ring_brings most bytes configured flags read write out ≡ none (without (why_ring t))
-    ring_none tag = ring_brings_lem t refl ∙ says_none (round_from read bytes) t tag
+    ring_none other = ring_brings_lem t refl ∙ says_none (round_from read bytes) t other
 
     module _ (size next : ℕ) (is : t ≡ ring-case.Packet size next) where
       found : Good most bytes configured (may_read (state_of flags)) read write (length out) size next
