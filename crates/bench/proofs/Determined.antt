@@ -22,16 +22,16 @@ is_false false never = refl
 
 -- the state and the memory
 pub run_determined : (κs : Lfts 3) (a : _) (r q : Ended) (e f : _) (p : run.Post κs a r e) (o : run.Post κs a q f)
-    → p.reads ≡ o.reads → (r.state ≡ q.state) × (e.0.now ≡ f.0.now)
+    → p.reads ≡ o.reads → (r.state ≡ q.state) × (e.1.0.now ≡ f.1.0.now)
 run_determined κs a r q e f p o same = (
-  p.state ∙ ap (λ (l : List (List ℕ)). (run_on start a.0.now (came_in l)).state) same ∙ sym o.state,
-  p.memory ∙ ap (λ (l : List (List ℕ)). (run_on start a.0.now (came_in l)).memory) same ∙ sym o.memory,
+  p.state ∙ ap (λ (l : List (List ℕ)). (run_on start a.1.0.now (came_in l)).state) same ∙ sym o.state,
+  p.memory ∙ ap (λ (l : List (List ℕ)). (run_on start a.1.0.now (came_in l)).memory) same ∙ sym o.memory,
 )
 
 -- the last line, where no read failed
 pub line_determined : (κs : Lfts 3) (a : _) (r q : Ended) (e f : _) (p : run.Post κs a r e) (o : run.Post κs a q f)
     → p.reads ≡ o.reads → r.failed ≡ false → q.failed ≡ false
-    → take (length (closing r.state)) e.1.1.0.now ≡ take (length (closing q.state)) f.1.1.0.now
+    → take (length (closing r.state)) e.1.1.1.0.now ≡ take (length (closing q.state)) f.1.1.1.0.now
 line_determined κs a r q e f p o same h k =
     p.line h ∙ ap closing (run_determined κs a r q e f p o same).0 ∙ sym (o.line k)
 
@@ -41,7 +41,7 @@ pub sent_determined : (κs : Lfts 3) (a : _) (r q : Ended) (e f : _) (p : run.Po
     → capped r.sent.bytes ≡ capped q.sent.bytes
 sent_determined κs a r q e f p o same failed h k =
     (p.sent.whole h).1
-    ∙ (λ i. capped (0 + length (to_send (failed i) a.0.now (came_in (same i)))))
+    ∙ (λ i. capped (0 + length (to_send (failed i) a.1.0.now (came_in (same i)))))
     ∙ sym (o.sent.whole k).1
 
 -- where no call failed and there were turns left, the input has ended: the last read brought nothing

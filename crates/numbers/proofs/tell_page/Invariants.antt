@@ -2,9 +2,6 @@
 -- Assumes nothing.
 use Prim.Native.Nat.{◌≤◌, ◌-◌}
 use lib.ListN.{length}
-use borrow.Author.Rules.{rules}
-use native.Mathlib.Omega.{arith}
-use mathlib.Core.Logic.{⊎_elim}
 use Rattle.numbers.proofs.tell_page.Given as goal
 
 abbrev pub invariant-loop-i : goal.invariant-loop-i

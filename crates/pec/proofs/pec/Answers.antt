@@ -1,7 +1,6 @@
 -- `pec::pec` meets its contract.
 -- Assumes nothing.
 use mathlib.Core.Path.{◌∙◌}
-use borrow.Author.Rules.{rules}
 use Rattle.pec.specs.Remainder.{poly_step, eight_steps, byte_step, pec_of}
 use Rattle.pec.specs.Words.{word_from}
 use Rattle.pec.proofs.pec.Goals as goal

@@ -1,8 +1,6 @@
 -- `images::text::show` is safe and ends. The loop's head need know nothing.
 -- Assumes nothing.
 use Prim.Native.Nat.{◌≤◌, ◌-◌}
-use borrow.Author.Rules.{rules}
-use native.Mathlib.Omega.{arith}
 use Rattle.images.proofs.text.show.Given as goal
 
 abbrev pub invariant-loop-i : goal.invariant-loop-i

@@ -1,7 +1,6 @@
 -- `mctp::packet::header_bytes` meets its contract: each flag is its bit.
 -- Assumes nothing.
 use Rattle.mctp.specs.Key.{flags_for, header_bytes}
-use borrow.Author.Rules.{rules}
 use Rattle.mctp.proofs.packet.header_bytes.Goals as goal
 
 pub returns : goal.returns

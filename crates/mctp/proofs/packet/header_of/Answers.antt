@@ -1,7 +1,6 @@
 -- `mctp::packet::header_of` meets its contract.
 -- Assumes nothing.
 use Rattle.mctp.specs.Key.{header_of}
-use borrow.Author.Rules.{rules}
 use Rattle.mctp.proofs.packet.header_of.Goals as goal
 
 pub returns : goal.returns

@@ -1,7 +1,6 @@
 -- `mctp::packet::key_of` meets its contract.
 -- Assumes nothing.
 use Rattle.mctp.specs.Key.{key_of}
-use borrow.Author.Rules.{rules}
 use Rattle.mctp.proofs.packet.key_of.Goals as goal
 
 pub returns : goal.returns

@@ -9,7 +9,6 @@ use borrow.Author.Tests.{le-leb, lt-leb}
 use lib.Dec.{leb}
 use Rattle.octets.proofs.Choice.{within_holds, within_below, within_above}
 use Rattle.mctp.specs.Packet.{size_right}
-use borrow.Author.Rules.{rules}
 use Rattle.mctp.proofs.packet.size_right.Goals as goal
 
 same : (most n : ℕ) → 5 ≤ n → leb (n - 4) most ≡ size_right most n

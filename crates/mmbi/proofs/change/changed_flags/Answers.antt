@@ -1,6 +1,5 @@
 -- `mmbi::change::changed_flags` meets its contract.
 -- Assumes nothing.
-use borrow.Author.Rules.{rules}
 use Rattle.mmbi.proofs.change.changed_flags.Goals as goal
 
 pub returns-in-Host : goal.returns-in-Host

@@ -1,6 +1,5 @@
 -- `mmbi::change::changed_word` meets its contract.
 -- Assumes nothing.
-use borrow.Author.Rules.{rules}
 use Rattle.mmbi.specs.Changes.{changed_word}
 use Rattle.mmbi.proofs.change.changed_word.Goals as goal
 

@@ -2,7 +2,6 @@
 -- Assumes nothing.
 use Rattle.mmbi.specs.Interface.{state_of}
 use Rattle.mmbi.proofs.States.{each_row}
-use borrow.Author.Rules.{rules}
 use Rattle.mmbi.proofs.interface.state.Goals as goal
 
 pub returns : goal.returns

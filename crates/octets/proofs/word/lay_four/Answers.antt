@@ -2,7 +2,6 @@
 -- Assumes nothing.
 use mathlib.Core.Path.{sym}
 use Rattle.octets.proofs.Laid.{laid_past, laid_four}
-use borrow.Author.Rules.{rules}
 use Rattle.octets.proofs.word.lay_four.Goals as goal
 
 pub returns-then-out-at : goal.returns-then-out-at

@@ -1,7 +1,6 @@
 -- `octets::word::lay_low_first` meets its contract.
 -- Assumes nothing.
 use Rattle.octets.specs.Words.{word_bytes}
-use borrow.Author.Rules.{rules}
 use Rattle.octets.proofs.word.lay_low_first.Goals as goal
 
 pub returns : goal.returns

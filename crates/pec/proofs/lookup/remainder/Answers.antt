@@ -6,7 +6,6 @@ use Prim.Native.Nat.{ℕ, ◌/◌, ◌%◌, ◌<◌}
 use native.Mathlib.Omega.{arith}
 use lib.Bits.{bit_xor, xor_lt}
 use lib.ListN.{get_or}
-use borrow.Author.Rules.{rules}
 use Rattle.pec.specs.Remainder.{eight_steps}
 use Rattle.pec.proofs.Fold.{eight_byte}
 use Rattle.pec.proofs.Table.{entry}

@@ -7,7 +7,6 @@ use native.Mathlib.Nat.{zero-add}
 use native.Mathlib.Omega.{arith}
 use lib.Bits.{bit_xor}
 use lib.ListN.{length, drop}
-use borrow.Author.Rules.{rules}
 use Rattle.octets.specs.Bytes.{Below}
 use Rattle.pec.specs.Remainder.{pec_from}
 use Rattle.pec.specs.Words.{number_at, word_from, word_pec}

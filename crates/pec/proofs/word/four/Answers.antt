@@ -3,7 +3,6 @@
 use native.Mathlib.Omega.{arith}
 use native.Mathlib.Nat.{add-zero}
 use Rattle.pec.specs.Words.{number_at}
-use borrow.Author.Rules.{rules}
 use Rattle.pec.proofs.word.four.Goals as goal
 
 pub returns : goal.returns

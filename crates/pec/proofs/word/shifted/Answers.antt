@@ -2,7 +2,6 @@
 -- Assumes nothing.
 use mathlib.Core.Path.{◌≡◌, refl}
 use native.Mathlib.Omega.{arith}
-use borrow.Author.Rules.{rules}
 use Rattle.pec.specs.Words.{word_from}
 use Rattle.pec.proofs.Shifts.{shifted, shifted_right}
 use Rattle.pec.proofs.word.shifted.Goals as goal

@@ -3,12 +3,11 @@
 -- Assumes nothing.
 use mathlib.Core.Path.{◌≡◌, refl, sym, ap, ◌∙◌}
 use mathlib.Core.List.{List}
-use Prim.Native.Nat.{ℕ, ◌+◌, ◌-◌, ◌%◌, ◌≤◌}
+use Prim.Native.Nat.{ℕ, ◌+◌}
 use native.Mathlib.Omega.{arith}
 use lib.Bits.{bit_xor}
 use lib.ListN.{length, drop}
 use lib.Seq.{drop-length}
-use borrow.Author.Rules.{rules}
 use Rattle.octets.specs.Bytes.{Below}
 use Rattle.pec.specs.Remainder.{pec_from}
 use Rattle.pec.specs.Words.{word_from, word_pec, number_at}

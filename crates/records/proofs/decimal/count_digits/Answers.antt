@@ -1,11 +1,7 @@
 -- `records::decimal::count_digits` meets its contract. The invariant: the digits passed and those of what is left are
 -- all.
 -- Assumes nothing.
-use Prim.Native.Nat.{◌+◌, ◌≤◌}
-use mathlib.Core.Path.{◌≡◌}
 use native.Mathlib.Omega.{arith}
-use lib.ListN.{length}
-use Rattle.records.specs.Decimal.{decimal}
 use Rattle.records.proofs.Decimals.{count_four, decimal_most}
 use Rattle.records.proofs.decimal.count_digits.Goals as goal
 

@@ -3,10 +3,8 @@
 -- Assumes nothing.
 use Prim.Native.Nat.{◌+◌, ◌≤◌}
 use mathlib.Core.Path.{◌≡◌}
-use native.Mathlib.Omega.{arith}
 use lib.ListN.{length}
 use Rattle.records.specs.Decimal.{decimal}
-use Rattle.records.proofs.Decimals.{count_four, decimal_most}
 use Rattle.records.proofs.decimal.count_digits.Given as goal
 
 abbrev pub invariant-loop-rest : goal.invariant-loop-rest

@@ -2,7 +2,6 @@
 -- Assumes nothing.
 use mathlib.Core.Path.{sym}
 use Rattle.octets.proofs.Laid.{laid_past}
-use borrow.Author.Rules.{rules}
 use Rattle.records.proofs.decimal.lay_decimal.Goals as goal
 
 pub returns-else-at-out : goal.returns-else-at-out

@@ -1,13 +1,10 @@
 -- `records::decimal::lay_digits` meets its contract. The invariant: the last digits are laid, and those of `rest` are
 -- to come.
 -- Assumes nothing.
-use Prim.Native.Nat.{◌≤◌}
-use mathlib.Core.Path.{◌≡◌, refl, ◌∙◌}
+use mathlib.Core.Path.{refl, ◌∙◌}
 use native.Mathlib.Omega.{arith}
-use borrow.Author.Rules.{rules}
-use lib.ListN.{length}
 use Rattle.records.proofs.Decimals.{decimal_most, count_more}
-use Rattle.records.proofs.Laying.{Laying, laying_none, laying_more, laying_last}
+use Rattle.records.proofs.Laying.{laying_none, laying_more, laying_last}
 use Rattle.records.proofs.decimal.lay_digits.Goals as goal
 
 pub loop-rest-init : goal.loop-rest-init

@@ -2,12 +2,9 @@
 -- to come.
 -- Assumes nothing.
 use Prim.Native.Nat.{◌≤◌}
-use mathlib.Core.Path.{◌≡◌, refl, ◌∙◌}
-use native.Mathlib.Omega.{arith}
-use borrow.Author.Rules.{rules}
+use mathlib.Core.Path.{◌≡◌}
 use lib.ListN.{length}
-use Rattle.records.proofs.Decimals.{decimal_most, count_more}
-use Rattle.records.proofs.Laying.{Laying, laying_none, laying_more, laying_last}
+use Rattle.records.proofs.Laying.{Laying}
 use Rattle.records.proofs.decimal.lay_digits.Given as goal
 
 abbrev pub invariant-loop-rest : goal.invariant-loop-rest

@@ -6,7 +6,6 @@ use mathlib.Core.Path.{sym}
 use native.Mathlib.Omega.{arith}
 use borrow.Author.Tests.{le-leb}
 use Rattle.records.proofs.Lines.{line_most}
-use borrow.Author.Rules.{rules}
 use Rattle.records.proofs.line.fits.Goals as goal
 
 pub returns-then-room-ge-LINE_ROOM : goal.returns-then-room-ge-LINE_ROOM

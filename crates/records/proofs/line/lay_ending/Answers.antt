@@ -1,7 +1,6 @@
 -- `records::line::lay_ending` meets its contract.
 -- Assumes nothing.
 use native.Mathlib.Omega.{arith}
-use borrow.Author.Rules.{rules}
 use Rattle.records.proofs.line.lay_ending.Goals as goal
 
 pub returns-then-again : goal.returns-then-again

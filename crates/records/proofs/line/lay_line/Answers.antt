@@ -1,14 +1,13 @@
 -- `records::line::lay_line` meets its contract: at each arm the number is laid, and then the words of that line.
 -- Assumes nothing.
 use native.Mathlib.Omega.{arith}
-use Prim.Native.Nat.{ℕ, ◌+◌}
+use Prim.Native.Nat.{◌+◌}
 use mathlib.Core.Bool.{false}
-use mathlib.Core.List.{List, ◌++◌}
+use mathlib.Core.List.{◌++◌}
 use Rattle.records.specs.Decimal.{decimal}
 use Rattle.records.specs.Line.{done_slot, length_word, held_slot, bytes_word, refused_word, named, ending, pair}
 use Rattle.records.specs.Line.{line_bytes, Placed}
 use Rattle.records.proofs.Lines.{Placed-append}
-use borrow.Author.Rules.{rules}
 use Rattle.records.proofs.line.lay_line.Goals as goal
 
 pub returns-in-Done : goal.returns-in-Done

@@ -5,7 +5,6 @@ use native.Mathlib.Omega.{arith}
 use Rattle.records.specs.Decimal.{decimal}
 use Rattle.records.specs.Line.{named}
 use Rattle.records.proofs.Lines.{Placed-append}
-use borrow.Author.Rules.{rules}
 use Rattle.records.proofs.line.lay_named.Goals as goal
 
 pub returns : goal.returns

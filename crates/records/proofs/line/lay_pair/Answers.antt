@@ -3,7 +3,6 @@
 use mathlib.Core.List.{◌++◌}
 use Rattle.records.specs.Line.{named, ending, pair}
 use Rattle.records.proofs.Lines.{Placed-append}
-use borrow.Author.Rules.{rules}
 use Rattle.records.proofs.line.lay_pair.Goals as goal
 
 pub returns : goal.returns

@@ -2,7 +2,6 @@
 -- Assumes nothing.
 use native.Mathlib.Omega.{arith}
 use Rattle.records.proofs.Lines.{done_size, held_size, refused_size}
-use borrow.Author.Rules.{rules}
 use Rattle.records.proofs.line.line_size.Goals as goal
 
 pub returns-in-Done : goal.returns-in-Done

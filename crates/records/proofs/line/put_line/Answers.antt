@@ -1,6 +1,6 @@
 -- `records::line::put_line` meets its contract.
 -- Assumes nothing.
-use Rattle.std.proofs.Common.{rules, ◌≤◌, ◌<◌, ◌+◌, length, sym, ◌∙◌, arith}
+use Rattle.std.proofs.Common.{rules, length, sym, ◌∙◌, arith}
 use borrow.Author.Tests.{leb-true, leb-false}
 use Rattle.records.specs.Line.{line_bytes}
 use Rattle.records.proofs.Lines.{put_placed, put_no_room}

@@ -3,7 +3,6 @@
 use native.Mathlib.Omega.{arith}
 use mathlib.Core.Path.{sym}
 use Rattle.records.proofs.Records.{at_end, at_whole, at_cut}
-use borrow.Author.Rules.{rules}
 use Rattle.records.proofs.record.record_at.Goals as goal
 
 pub returns-then-s-at : goal.returns-then-s-at

@@ -1,9 +1,6 @@
 -- `resets::phases::count` is safe and ends. The invariant: no more pairs are counted than were asked about.
 -- Assumes nothing.
 use Prim.Native.Nat.{◌≤◌, ◌-◌}
-use borrow.Author.Rules.{rules}
-use native.Mathlib.Omega.{arith}
-use mathlib.Core.Logic.{⊎_elim}
 use Rattle.resets.proofs.phases.count.Given as goal
 
 abbrev pub invariant-loop-n : goal.invariant-loop-n

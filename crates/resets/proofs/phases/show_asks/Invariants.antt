@@ -1,8 +1,6 @@
 -- `resets::phases::show_asks` is safe and ends. The loop's head need know nothing.
 -- Assumes nothing.
 use Prim.Native.Nat.{◌≤◌, ◌-◌}
-use borrow.Author.Rules.{rules}
-use native.Mathlib.Omega.{arith}
 use Rattle.resets.proofs.phases.show_asks.Given as goal
 
 abbrev pub invariant-loop-n : goal.invariant-loop-n

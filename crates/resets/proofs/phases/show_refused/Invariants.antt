@@ -1,8 +1,6 @@
 -- `resets::phases::show_refused` is safe and ends. The loop's head need know nothing.
 -- Assumes nothing.
 use Prim.Native.Nat.{◌≤◌, ◌-◌}
-use borrow.Author.Rules.{rules}
-use native.Mathlib.Omega.{arith}
 use Rattle.resets.proofs.phases.show_refused.Given as goal
 
 abbrev pub invariant-loop-n : goal.invariant-loop-n

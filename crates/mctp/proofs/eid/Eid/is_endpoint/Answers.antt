@@ -1,6 +1,5 @@
 -- `mctp::eid::Eid::is_endpoint` meets its contract.
 -- Assumes nothing.
-use borrow.Author.Rules.{rules}
 use Rattle.mctp.proofs.eid.Eid.is_endpoint.Goals as goal
 
 pub returns : goal.returns

@@ -1,7 +1,6 @@
 -- `mctp::refusal::Refusal::number` meets its contract: at each arm the match has told which refusal it is.
 -- Assumes nothing.
 use mathlib.Core.Path.{◌≡◌, ap, sym}
-use borrow.Author.Rules.{rules}
 use Rattle.mctp.specs.declared.refusal.Refusal.{Refusal}
 use Rattle.mctp.specs.Refusals.{number_of}
 use Rattle.mctp.proofs.refusal.Refusal.number.Goals as goal

@@ -1,7 +1,6 @@
 -- `mmbi::word::Word::number` meets its contract.
 -- Assumes nothing.
 use Rattle.mmbi.specs.Words.{number_of}
-use borrow.Author.Rules.{rules}
 use Rattle.mmbi.proofs.word.Word.number.Goals as goal
 
 pub returns : goal.returns

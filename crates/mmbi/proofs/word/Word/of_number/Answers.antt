@@ -2,7 +2,6 @@
 -- Assumes nothing.
 use mathlib.Core.Path.{refl}
 use Rattle.mmbi.specs.Words.{word_of}
-use borrow.Author.Rules.{rules}
 use Rattle.mmbi.proofs.word.Word.of_number.Goals as goal
 
 pub returns : goal.returns

@@ -1,8 +1,6 @@
 -- `resets::runs::Run::count` is safe and ends. The loop's head need know nothing.
 -- Assumes nothing.
 use Prim.Native.Nat.{◌≤◌, ◌-◌}
-use borrow.Author.Rules.{rules}
-use native.Mathlib.Omega.{arith}
 use Rattle.resets.proofs.runs.Run.count.Given as goal
 
 abbrev pub invariant-loop-n : goal.invariant-loop-n
