@@ -2,6 +2,7 @@
 ghost use Rattle.std.specs.Prelude.{◌≡◌, ◌+◌, length};
 ghost use Rattle.bench.specs.Sending.{capped, nothing_sent, Sends};
 
+use std::io;
 use std::io::Write;
 
 // How many bytes were handed over, and whether a write failed.
@@ -39,7 +40,7 @@ pub fn send(rt: HostRuntime, before: Sent, text: &[u8]) -> Sent
             failed: false,
         },
         Err(e) => {
-            let _ = eprintln!(rt; "bench: standard output: {e}");
+            let _ = fail(rt, "bench: standard output", e);
             Sent {
                 bytes: before.bytes,
                 failed: true,
@@ -58,5 +59,19 @@ fn more(count: u64, bytes: usize) -> u64
         u64::MAX
     } else {
         count + grown
+    }
+}
+
+// What failed and why, as the system words it and without its number, on standard error.
+pub fn fail(rt: HostRuntime, what: &str, error: io::Error) -> io::Result<()> {
+    let whole = format!(in rt.alloc(); "{error}")?;
+    let reason = without_number(whole.as_str());
+    eprintln!(rt; "{what}: {reason}")
+}
+
+fn without_number(error: &str) -> &str {
+    match error.split_once(" (os error ") {
+        Some((reason, _)) => reason,
+        None => error,
     }
 }

@@ -9,7 +9,21 @@ pub fn say(rt: HostRuntime, words: &[u8]) {
 
 fn told(rt: HostRuntime, outcome: io::Result<()>) {
     if let Err(e) = outcome {
-        let _ = eprintln!(rt; "numbers: standard output: {e}");
+        let _ = fail(rt, "numbers: standard output", e);
+    }
+}
+
+// What failed and why, as the system words it and without its number, on standard error.
+fn fail(rt: HostRuntime, what: &str, error: io::Error) -> io::Result<()> {
+    let whole = format!(in rt.alloc(); "{error}")?;
+    let reason = without_number(whole.as_str());
+    eprintln!(rt; "{what}: {reason}")
+}
+
+fn without_number(error: &str) -> &str {
+    match error.split_once(" (os error ") {
+        Some((reason, _)) => reason,
+        None => error,
     }
 }
 

@@ -22,7 +22,7 @@ impl Text {
         match outcome {
             Ok(()) => self,
             Err(e) => {
-                let _ = eprintln!(self.rt; "resets: standard output: {e}");
+                let _ = fail(self.rt, "resets: standard output", e);
                 Text {
                     rt: self.rt,
                     written: false,
@@ -54,5 +54,19 @@ impl Text {
             return self;
         }
         self.told(self.rt.print(n))
+    }
+}
+
+// What failed and why, as the system words it and without its number, on standard error.
+fn fail(rt: HostRuntime, what: &str, error: io::Error) -> io::Result<()> {
+    let whole = format!(in rt.alloc(); "{error}")?;
+    let reason = without_number(whole.as_str());
+    eprintln!(rt; "{what}: {reason}")
+}
+
+fn without_number(error: &str) -> &str {
+    match error.split_once(" (os error ") {
+        Some((reason, _)) => reason,
+        None => error,
     }
 }
