@@ -28,15 +28,20 @@ use Rattle.mmbi.proofs.changed_flags.Reads as changed-flags
 use Rattle.mmbi.proofs.transient.Reads as transient
 use Rattle.handshake.specs.Phases.{host_number, host_refusal, host_stored, host_asked, stored_refusal, stored_number}
 use Rattle.handshake.specs.Phases.{controller_number, controller_refusal, controller_stored, controller_asked}
+use Rattle.handshake.specs.Starts.{host_at_power_up, host_from_flags, controller_at_power_up, controller_from_flags}
 use Rattle.handshake.specs.Steps.{host_step, controller_step}
 use Rattle.handshake.proofs.host.HostPhase.step.Reads as host-step
 use Rattle.handshake.proofs.host.HostPhase.ask.Reads as host-ask
 use Rattle.handshake.proofs.host.HostPhase.number.Reads as host-number
 use Rattle.handshake.proofs.host.HostPhase.of_number.Reads as host-of-number
+use Rattle.handshake.proofs.host.HostPhase.at_power_up.Reads as host-at-power-up
+use Rattle.handshake.proofs.host.HostPhase.from_flags.Reads as host-from-flags
 use Rattle.handshake.proofs.controller.ControllerPhase.step.Reads as controller-step
 use Rattle.handshake.proofs.controller.ControllerPhase.ask.Reads as controller-ask
 use Rattle.handshake.proofs.controller.ControllerPhase.number.Reads as controller-number
 use Rattle.handshake.proofs.controller.ControllerPhase.of_number.Reads as controller-of-number
+use Rattle.handshake.proofs.controller.ControllerPhase.at_power_up.Reads as controller-at-power-up
+use Rattle.handshake.proofs.controller.ControllerPhase.from_flags.Reads as controller-from-flags
 use Rattle.ring.specs.Writing as putting
 use Rattle.ring.specs.Answers.{entered_in}
 use Rattle.ring.proofs.write.Reads as ring-write
@@ -216,7 +221,7 @@ pub store_flags_is : (κs : Lfts 1) (a : _) (r : _) (e : _) → store-flags.Post
     × (e.0.now ≡ stored_flags a.0.now a.1.0 a.1.1.0)
 store_flags_is κs a r e p = p
 
--- the handshake: a phase and the flags; a phase; a phase's number
+-- the handshake: a phase and the flags; a phase; a phase's number; nothing; the flags
 pub host_step_is : (κs : Lfts 0) (a r e : _) → host-step.Post κs a r e → r ≡ host_step a.0 a.1.0
 host_step_is κs a r e p = p
 
@@ -229,6 +234,12 @@ host_number_is κs a r e p = p
 pub host_of_number_is : (κs : Lfts 0) (a r e : _) → host-of-number.Post κs a r e
     → (host_refusal r ≡ stored_refusal 3 a.0) × (host_stored r ≡ stored_number 3 a.0)
 host_of_number_is κs a r e p = p
+
+pub host_at_power_up_is : (κs : Lfts 0) (a r e : _) → host-at-power-up.Post κs a r e → r ≡ host_at_power_up
+host_at_power_up_is κs a r e p = p
+
+pub host_from_flags_is : (κs : Lfts 0) (a r e : _) → host-from-flags.Post κs a r e → r ≡ host_from_flags a.0
+host_from_flags_is κs a r e p = p
 
 pub controller_step_is : (κs : Lfts 0) (a r e : _) → controller-step.Post κs a r e
     → r ≡ controller_step a.0 a.1.0
@@ -243,6 +254,14 @@ controller_number_is κs a r e p = p
 pub controller_of_number_is : (κs : Lfts 0) (a r e : _) → controller-of-number.Post κs a r e
     → (controller_refusal r ≡ stored_refusal 6 a.0) × (controller_stored r ≡ stored_number 6 a.0)
 controller_of_number_is κs a r e p = p
+
+pub controller_at_power_up_is : (κs : Lfts 0) (a r e : _) → controller-at-power-up.Post κs a r e
+    → r ≡ controller_at_power_up
+controller_at_power_up_is κs a r e p = p
+
+pub controller_from_flags_is : (κs : Lfts 0) (a r e : _) → controller-from-flags.Post κs a r e
+    → r ≡ controller_from_flags a.0
+controller_from_flags_is κs a r e p = p
 
 -- flags and a change of them
 pub changed_flags_is : (κs : Lfts 0) (a r e : _) → changed-flags.Post κs a r e → r ≡ changed_flags a.1.0 a.0

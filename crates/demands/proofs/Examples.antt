@@ -69,7 +69,7 @@ small = all_bytes_lem literal_packet tt
 -- DEMAND 1
 
 -- an empty frame
-no_frame : brings 64 (by_smbus [] 32) ≡ carrier.none (carrier.refused 3)
+pub no_frame : brings 64 (by_smbus [] 32) ≡ carrier.none (carrier.refused 3)
 unfolding carrier.smbus_brings smbus.refusal_of
 no_frame = refl
 

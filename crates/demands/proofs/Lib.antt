@@ -9,6 +9,7 @@ pub mod ResetExamples
 pub mod Fed
 pub mod Ways
 pub mod Demands
+pub mod InUse
 pub mod Tallies
 pub mod TallyExamples
 pub mod Ages
@@ -20,3 +21,4 @@ pub mod Checked
 pub mod Steps
 pub mod Useless
 pub mod Examples
+pub mod UseExamples

@@ -30,6 +30,7 @@ use Rattle.handshake.specs.Order.{among, KeepsHost}
 use Rattle.handshake.specs.Back.{in_turn, host_asks, asking, steps_back, trace, BackWithin, misled, beyond_help}
 use Rattle.handshake.specs.Runs.{the_host, the_controller, Move, steps, asks, after, running}
 use Rattle.handshake.specs.Steps.{host_step, host_waits, controller_step, controller_waits}
+use Rattle.handshake.specs.Starts.{power_up, Incident, moves, restarts, after_incidents}
 use Rattle.handshake.proofs.Fair.{fair_order, uneven, fair_orders}
 use Rattle.demands.specs.Turns as turns
 use Rattle.demands.specs.Turns.{Event, put, drain, reinitializes, Link, after_all, start_with}
@@ -80,6 +81,20 @@ again =
 pub nothing_is_stuck : BackWithin 16 (in_turn the_host 16) (after again running)
 nothing_is_stuck =
     resets.nothing_is_stuck again 2 (in_turn the_host 16) (fair_order 2 (in_turn the_host 16) fair_orders.0) (lit≤ tt)
+
+-- the host restarts in normal runtime, so it asks; the controller restarts before it has looked, so it asks too
+abbrev both_restart : List Incident
+both_restart = restarts the_host ∷ moves (steps the_host) ∷ restarts the_controller ∷ []
+
+pub restarts_are_survived : BackWithin 16 (in_turn the_host 16) (after_incidents both_restart running)
+restarts_are_survived =
+    resets.restarts_are_survived both_restart 2 (in_turn the_host 16) (fair_order 2 (in_turn the_host 16) fair_orders.0)
+    (lit≤ tt)
+
+pub they_come_up_from_power_up : BackWithin 4 (in_turn the_host 16) power_up
+they_come_up_from_power_up =
+    resets.they_come_up_from_power_up 2 (in_turn the_host 16) (fair_order 2 (in_turn the_host 16) fair_orders.0)
+    (lit≤ tt)
 
 -- a controller that is to ask in normal runtime is shown all ones
 pub one_wrong_sight_is_survived : BackWithin 16 (in_turn the_host 16)

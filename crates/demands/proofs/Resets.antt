@@ -23,9 +23,12 @@ use Rattle.handshake.specs.declared.host.HostPhase.{HostPhase}
 use Rattle.handshake.specs.Order.{host_order, controller_order, among, KeepsController, KeepsHost, clears_host}
 use Rattle.handshake.specs.Back.{Asker, asking, ComesBack, Fair, BackWithin, misled, beyond_help}
 use Rattle.handshake.specs.Runs.{End, Move, after, running}
+use Rattle.handshake.specs.Starts.{power_up, Incident, after_incidents}
 use Rattle.handshake.specs.Steps.{host_step, host_waits, controller_step, controller_waits}
 use Rattle.handshake.proofs.Fair.{back_from_asking, back_from_anywhere}
 use Rattle.handshake.proofs.Own.{host_writes_its_own, controller_writes_its_own, controller_clears_the_host}
+use Rattle.handshake.proofs.PowerUp.{back_from_power_up}
+use Rattle.handshake.proofs.Restarts.{back_after_restarts}
 use Rattle.handshake.proofs.Turns.{back_in_turn}
 use Rattle.handshake.proofs.Waiting.{host_waits_lem, controller_waits_lem}
 use Rattle.handshake.proofs.WrongSights.{back_after_a_wrong_sight}
@@ -78,6 +81,18 @@ pub one_wrong_sight_is_survived : (history : List Move) (end : End) (seen : Flag
     → (k : ℕ) (order : List End) → Fair k order → 8 * k ≤ length order
     → BackWithin (8 * k) order (misled end seen (after history running))
 one_wrong_sight_is_survived = back_after_a_wrong_sight
+
+-- nor after restarts: an end that restarts alone takes its phase from the flags, as often as that happens, among steps
+-- and asks in any order
+pub restarts_are_survived : (incidents : List Incident) (k : ℕ) (order : List End) → Fair k order
+    → 8 * k ≤ length order
+    → BackWithin (8 * k) order (after_incidents incidents running)
+restarts_are_survived = back_after_restarts
+
+-- and both ends come up from power-up, within 2 k steps
+pub they_come_up_from_power_up : (k : ℕ) (order : List End) → Fair k order → 2 * k ≤ length order
+    → BackWithin (2 * k) order power_up
+they_come_up_from_power_up = back_from_power_up
 
 -- what a step says, stored in a window: the flags that are read there next are the changed ones, and every pointer is
 -- as it was, right for its ring or not, so that a reset can cure a broken one. Document 01 lets the two structures

@@ -29,6 +29,8 @@ use Rattle.sender.specs.Cutting.{packets_in, packet_at, heading_right, message_r
 use Rattle.sender.specs.Sending.{output_refusal, output_size, output_written, smbus_refusal, smbus_size, smbus_written}
 use Rattle.sender.specs.Sending.{pcc_refusal, pcc_written, ring_entered, ring_written}
 use Rattle.sender.specs.Whole.{all_packets, all_bodies}
+use Rattle.sender.specs.Ranges.{InRange, NoMessage}
+use Rattle.sender.proofs.Ranges.{one_exactly_out_of_range, three_exactly_no_message}
 use Rattle.sender.proofs.Cuts.{there_exactly, in_range}
 use Rattle.sender.proofs.Packets.{all_counted, bodies_joined}
 use Rattle.sender.proofs.Sendings.{by_output, no_room, by_smbus_lem, by_pcc_lem, by_ring_lem}
@@ -49,6 +51,21 @@ pub these_may_be_sent : (heading : Heading) (message : List ℕ)
     → (heading_right heading ≡ true) × (message_right (length message) ≡ true)
 these_may_be_sent heading message d s below tag first some most =
     (in_range heading d s below tag first, within_holds 1 1024 (length message) some most)
+
+-- "Refusals: 1 for a number out of range": exactly so, every number, whatever the message and k; an EID is a byte
+pub one_exactly_if_out_of_range : (heading : Heading) → heading.key.source.0 ≤ 255 → (message : List ℕ) (k : ℕ)
+    → ((InRange heading → ⊥) → cut_refusal 64 heading (length message) k ≡ 1)
+    × (cut_refusal 64 heading (length message) k ≡ 1 → InRange heading → ⊥)
+one_exactly_if_out_of_range heading byte message k =
+    one_exactly_out_of_range heading byte 64 (length message) k refl
+
+-- "then 3 for the message": exactly where it has no byte or more than 1,024, whatever k
+pub three_exactly_if_no_message : (heading : Heading) → heading.key.source.0 ≤ 255 → InRange heading
+    → (message : List ℕ) (k : ℕ)
+    → (NoMessage (length message) → cut_refusal 64 heading (length message) k ≡ 3)
+    × (cut_refusal 64 heading (length message) k ≡ 3 → NoMessage (length message))
+three_exactly_if_no_message heading byte right message k =
+    three_exactly_no_message heading byte 64 (length message) k refl right
 
 -- "give packet k of it, k from 0": there is one exactly if k is below their number; "23 for k past the end" exactly if
 -- it isn't

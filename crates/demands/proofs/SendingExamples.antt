@@ -3,8 +3,8 @@
 use mathlib.Core.Path.{◌≡◌, refl}
 use mathlib.Core.Bool.{true, false}
 use mathlib.Core.List.{[], ◌∷◌, ◌++◌, map}
-use mathlib.Core.Logic.{inl, inr}
-use Prim.Native.Nat.{ℕ, zero, suc}
+use mathlib.Core.Logic.{◌⊎◌, inl, inr}
+use Prim.Native.Nat.{ℕ, zero, suc, ◌≤◌}
 use native.Mathlib.Omega.{arith}
 use lib.Dec.{lit≤, lit<}
 use lib.ListN.{length, replicate}
@@ -26,6 +26,7 @@ use Rattle.sender.specs.Sending.{output_refusal, output_size, output_written, sm
 use Rattle.sender.specs.Sending.{pcc_refusal, pcc_written}
 use Rattle.sender.specs.Sending.{ring_entered, ring_written}
 use Rattle.sender.specs.Whole.{along, all_packets}
+use Rattle.sender.specs.Ranges.{InRange}
 use Rattle.sender.proofs.Literal.{headed, answering, message130}
 use Rattle.demands.specs.Presenting.{present}
 use Rattle.demands.specs.Sending.{GivesMessage}
@@ -45,6 +46,35 @@ these_may_be_sent = (
       (lit≤ tt) (lit≤ tt),
   sending.these_may_be_sent (headed 255 254 false 7 3) (replicate 1024 0) (inr (lit≤ tt)) (inr (lit≤ tt)) (lit≤ tt)
       (lit≤ tt) (lit≤ tt) (lit≤ tt) (lit≤ tt),
+)
+
+answering_in_range : InRange answering
+answering_in_range =
+    record { destination = inr (lit≤ tt); source = inr (lit≤ tt, lit≤ tt); tag = lit≤ tt; first = lit≤ tt }
+
+-- the reserved destination 4, and a first sequence number of 5; and none of the numbers of `answering`
+pub one_exactly_if_out_of_range : ((cut_refusal 64 (headed 4 10 true 5 0) 130 2 ≡ 1)
+    × (cut_refusal 64 (headed 9 10 true 5 5) 130 2 ≡ 1))
+    × (cut_refusal 64 answering 130 2 ≡ 1 → ⊥)
+one_exactly_if_out_of_range = (
+  (
+    (sending.one_exactly_if_out_of_range (headed 4 10 true 5 0) (lit≤ tt) message130 2).0 (λ h. four h.destination),
+    (sending.one_exactly_if_out_of_range (headed 9 10 true 5 5) (lit≤ tt) message130 2).0
+        (λ h. omega (arith, h.first)),
+  ),
+  (λ e. (sending.one_exactly_if_out_of_range answering (lit≤ tt) message130 2).1 e answering_in_range),
+)
+  where
+    four : (◌≡◌ {A = ℕ} 4 0) ⊎ (8 ≤ 4) → ⊥
+    four (inl e) = omega (arith, e)
+    four (inr h) = omega (arith, h)
+
+-- no byte, and one too many
+pub three_exactly_if_no_message :
+    (cut_refusal 64 answering 0 0 ≡ 3) × (cut_refusal 64 answering 1025 0 ≡ 3)
+three_exactly_if_no_message = (
+  (sending.three_exactly_if_no_message answering (lit≤ tt) answering_in_range [] 0).0 (inl refl),
+  (sending.three_exactly_if_no_message answering (lit≤ tt) answering_in_range (replicate 1025 0) 0).0 (inr (lit< tt)),
 )
 
 -- the last packet, and the first past the end

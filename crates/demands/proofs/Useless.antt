@@ -21,6 +21,7 @@ use Rattle.slots.specs.declared.state.Slot.{Slot}
 use Rattle.slots.specs.declared.state.Tallies.{Tallies}
 use Rattle.slots.specs.declared.state.Receiver.{Receiver}
 use Rattle.slots.specs.Slots.{slot_at, is_free}
+use Rattle.slots.specs.Changes.{with_offered}
 use Rattle.slots.proofs.Literal.{tallied}
 use Rattle.receiver.specs.Step as rules
 use Rattle.rack.specs.declared.answer.Beside.{Beside}
@@ -119,6 +120,18 @@ module _ (build : (time : ℕ) → Receiver → List ℕ → List ℕ → rules.
       (sym steps.first_taken
       ∙ ap (λ (l : rules.Left). is_free (slot_at l.receiver.slots 0)) (sym (meets 0 card empty (packet_with 0x80 1 7)))
       ∙ ap (λ (r : Receiver). is_free (slot_at r.slots 0)) (all 0 card empty (packet_with 0x80 1 7)))
+
+  -- so does one that counts the packet as offered and leaves the slots
+  keeps_the_slots : ((time : ℕ) (r : Receiver) (m p : List ℕ) → (build time r m p).receiver.slots ≡ r.slots) → ⊥
+  keeps_the_slots all =
+      false≢true
+      (sym steps.first_taken
+      ∙ ap (λ (l : rules.Left). is_free (slot_at l.receiver.slots 0)) (sym (meets 0 card empty (packet_with 0x80 1 7)))
+      ∙ ap (λ (l : List Slot). is_free (slot_at l 0)) (all 0 card empty (packet_with 0x80 1 7)))
+
+  pub only_counts : ((time : ℕ) (r : Receiver) (m p : List ℕ) → (build time r m p).receiver ≡ with_offered r) → ⊥
+  only_counts all =
+      keeps_the_slots (λ time r m p. ap (λ (r : Receiver). r.slots) (all time r m p))
 
   pub leaves_the_memory : ((time : ℕ) (r : Receiver) (m p : List ℕ) → (build time r m p).memory ≡ m) → ⊥
   leaves_the_memory all =

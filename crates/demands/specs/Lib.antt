@@ -1,4 +1,5 @@
 pub mod Presenting
+pub mod Using
 pub mod Turns
 pub mod Sending
 pub mod Ways
