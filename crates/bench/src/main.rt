@@ -127,7 +127,7 @@ fn fill(rt: HostRuntime, input: &mut [u8], held: usize) -> Filled
             failed: false,
         },
         Err(e) => {
-            let _ = sending::fail(rt, "bench: standard input", e);
+            sending::fail(rt, "bench: standard input", e);
             Filled {
                 end: held,
                 failed: true,

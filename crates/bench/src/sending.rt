@@ -40,7 +40,7 @@ pub fn send(rt: HostRuntime, before: Sent, text: &[u8]) -> Sent
             failed: false,
         },
         Err(e) => {
-            let _ = fail(rt, "bench: standard output", e);
+            fail(rt, "bench: standard output", e);
             Sent {
                 bytes: before.bytes,
                 failed: true,
@@ -62,11 +62,18 @@ fn more(count: u64, bytes: usize) -> u64
     }
 }
 
-// What failed and why, as the system words it and without its number, on standard error.
-pub fn fail(rt: HostRuntime, what: &str, error: io::Error) -> io::Result<()> {
-    let whole = format!(in rt.alloc(); "{error}")?;
-    let reason = without_number(whole.as_str());
-    eprintln!(rt; "{what}: {reason}")
+// What failed and why, as the system words it and without its number, on standard error; with the number where no memory
+// is left to cut it off.
+pub fn fail(rt: HostRuntime, what: &str, error: io::Error) {
+    match format!(in rt.alloc(); "{error}") {
+        Ok(whole) => {
+            let reason = without_number(whole.as_str());
+            let _ = eprintln!(rt; "{what}: {reason}");
+        }
+        Err(_) => {
+            let _ = eprintln!(rt; "{what}: {error}");
+        }
+    }
 }
 
 fn without_number(error: &str) -> &str {

@@ -22,7 +22,7 @@ impl Text {
         match outcome {
             Ok(()) => self,
             Err(e) => {
-                let _ = fail(self.rt, "resets: standard output", e);
+                fail(self.rt, "resets: standard output", e);
                 Text {
                     rt: self.rt,
                     written: false,
@@ -57,11 +57,18 @@ impl Text {
     }
 }
 
-// What failed and why, as the system words it and without its number, on standard error.
-fn fail(rt: HostRuntime, what: &str, error: io::Error) -> io::Result<()> {
-    let whole = format!(in rt.alloc(); "{error}")?;
-    let reason = without_number(whole.as_str());
-    eprintln!(rt; "{what}: {reason}")
+// What failed and why, as the system words it and without its number, on standard error; with the number where no memory
+// is left to cut it off.
+fn fail(rt: HostRuntime, what: &str, error: io::Error) {
+    match format!(in rt.alloc(); "{error}") {
+        Ok(whole) => {
+            let reason = without_number(whole.as_str());
+            let _ = eprintln!(rt; "{what}: {reason}");
+        }
+        Err(_) => {
+            let _ = eprintln!(rt; "{what}: {error}");
+        }
+    }
 }
 
 fn without_number(error: &str) -> &str {
