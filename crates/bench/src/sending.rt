@@ -62,8 +62,8 @@ fn more(count: u64, bytes: usize) -> u64
     }
 }
 
-// What failed and why, as the system words it and without its number, on standard error; with the number where no memory
-// is left to cut it off.
+// What failed and why on standard error, as the system words it, without its number; with the number where no memory is
+// left to cut it off.
 pub fn fail(rt: HostRuntime, what: &str, error: io::Error) {
     match format!(in rt.alloc(); "{error}") {
         Ok(whole) => {

@@ -57,8 +57,8 @@ impl Text {
     }
 }
 
-// What failed and why, as the system words it and without its number, on standard error; with the number where no memory
-// is left to cut it off.
+// What failed and why on standard error, as the system words it, without its number; with the number where no memory is
+// left to cut it off.
 fn fail(rt: HostRuntime, what: &str, error: io::Error) {
     match format!(in rt.alloc(); "{error}") {
         Ok(whole) => {
