@@ -78,7 +78,8 @@ pub record Told : Type 0 where
   pub whole_turn : next 5 ((5 + 4294967296) % 4294967296) ≡ held 0 4 false
   -- a middle renews the count: the third packet is 1,600 ms behind the start, and 800 behind the second
   pub renewed : (run 64 (waiting 0) empty
-      (give 800 (packet_with 0x10 2 7) ∷ give 1600 (packet_with 0x20 2 7) ∷ give 2601 (packet_with 0x70 2 7) ∷ [])).answers
+      (give 800 (packet_with 0x10 2 7) ∷ give 1600 (packet_with 0x20 2 7) ∷ give 2601 (packet_with 0x70 2 7)
+      ∷ [])).answers
       ≡ rules (held 0 4 false) ∷ rules (held 0 6 false) ∷ rules (refused 19) ∷ []
   -- a start of an old key is not "again", and takes the lowest free slot: tag 2's was slot 2, and slot 1 is free too
   pub not_again : step_of 64 1011 four empty (packet_with 0x82 1 7)
@@ -135,12 +136,14 @@ pub record Told : Type 0 where
   pub follows : Hold (packet_order 64 four.setup (packet_with 0x12 2 7) ++ source_order (packet_with 0x12 2 7))
   pub keys : (key_of (packet_with 0x82 1 7) ≡ key 9 10 false 2) × (key_of (packet_with 0xC2 1 7) ≡ key 9 10 false 2)
       × (key_of (packet_with 0x12 2 7) ≡ key 9 10 false 2)
-  pub takes_it : has_key (key 9 10 false 2) (slot_at (step_of 64 1011 four empty (packet_with 0x82 1 7)).receiver.slots 1)
+  pub takes_it : has_key (key 9 10 false 2) (slot_at (step_of 64 1011 four empty (packet_with 0x82 1 7)).receiver.slots
+      1)
       ≡ true
 
 pub told : Told
 unfolding free_refusal freed_of run step_of offered_to expired_to decided ruled on_start on_follow gathered
-    after slot_of lowest_free first_of header_of key_of same_key right_state right_slot right_numbers multiple clash laid sum_of
+    after slot_of lowest_free first_of header_of key_of same_key right_state right_slot right_numbers multiple clash
+    laid sum_of
 told =
     record {
       at_the_limit = refl;
@@ -231,7 +234,8 @@ any_other_packet_gets_19 =
 abbrev left : Receiver
 left = tallied 2 4 1 0 (with_slots_lem (begun 0 900) free_slot free_slot (begun 3 1000))
 
-pub given_and_refused : ((step_of 64 1011 four empty []).receiver ≡ left) × ((step_of 64 1011 four empty []).memory ≡ empty)
+pub given_and_refused : ((step_of 64 1011 four empty []).receiver ≡ left)
+    × ((step_of 64 1011 four empty []).memory ≡ empty)
 unfolding expired_to sum_of
 given_and_refused =
     let same = demands.given_and_refused 1011 four empty [] 3 told.refusals.0 (lit≤ tt) (λ e. omega arith)

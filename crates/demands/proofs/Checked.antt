@@ -27,7 +27,8 @@ use Rattle.demands.proofs.Arrivals.{smbus_found}
 -- the good frame's packet, given to the message rules
 pub literal_done : (step_of 64 0 card empty literal_packet).said ≡ done 0 1 false
 unfolding step_of offered_to expired_to decided ruled on_start on_follow gathered
-    after slot_of lowest_free first_of header_of key_of same_key right_state right_slot right_numbers multiple clash laid
+    after slot_of lowest_free first_of header_of key_of same_key right_state right_slot right_numbers multiple clash
+    laid
     sum_of
 literal_done = refl
 
@@ -39,7 +40,8 @@ literal_arrival =
     ap (λ (c : Brought). (arrived_of 64 0 card empty c).told) literal_brought ∙ ap (given (Source 17)) literal_done
 
 pub numbers : Numbers
-unfolding poly_step eight_steps byte_step pec_from pec_of filled_of room_of state_of run step_of offered_to expired_to decided
+unfolding poly_step eight_steps byte_step pec_from pec_of filled_of room_of state_of run step_of offered_to expired_to
+    decided
     ruled on_start on_follow gathered after slot_of lowest_free first_of header_of
     key_of same_key right_state right_slot right_numbers multiple clash laid sum_of
 numbers =

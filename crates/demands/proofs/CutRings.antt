@@ -35,7 +35,8 @@ module _ (window : List ℕ) (c : Configuration) (area : Area) (is : is_ring are
   ring = putting.written_of 64 (area_of window c area) configured running read write p
 
   fits : length ring ≡ (area_place c area).length
-  fits = written-length 64 (area_of window c area) configured running read write p ∙ (found_ring_cut window c area is e).0
+  fits = written-length 64 (area_of window c area) configured running read write p
+      ∙ (found_ring_cut window c area is e).0
 
   pub write_stays : RingChanged window c area ring
   write_stays = put_back_lem window c area ring is (found_allowed window c e) fits

@@ -107,7 +107,8 @@ pub refused_and_freed : (time : ℕ) (r : Receiver) (m p : List ℕ) (a : Arriva
 refused_and_freed time r m p a beside n e = good.rules_freed 64 time r m p beside n (brings 64 a) e
 
 -- a packet given to the message rules directly: the same
-pub given_uncounted : (time : ℕ) (r : Receiver) (m p : List ℕ) (n : ℕ) → (step_of 64 time r m p).said ≡ refused n → n ≤ 2
+pub given_uncounted : (time : ℕ) (r : Receiver) (m p : List ℕ) (n : ℕ) → (step_of 64 time r m p).said ≡ refused n
+    → n ≤ 2
     → Unchanged r m (step_of 64 time r m p).receiver (step_of 64 time r m p).memory
 given_uncounted = rules.refused_uncounted 64
 
@@ -116,7 +117,8 @@ pub given_and_refused : (time : ℕ) (r : Receiver) (m p : List ℕ) (n : ℕ) �
     → Unchanged (with_offered (expired time r)) m (step_of 64 time r m p).receiver (step_of 64 time r m p).memory
 given_and_refused = rules.refused_counted 64
 
-pub given_and_freed : (time : ℕ) (r : Receiver) (m p : List ℕ) (n : ℕ) → (step_of 64 time r m p).said ≡ refused n → 20 ≤ n
+pub given_and_freed : (time : ℕ) (r : Receiver) (m p : List ℕ) (n : ℕ) → (step_of 64 time r m p).said ≡ refused n
+    → 20 ≤ n
     → SlotFreed (key_of p) (with_offered (expired time r)) m (step_of 64 time r m p).receiver
     (step_of 64 time r m p).memory
 given_and_freed = rules.refused_freed 64
@@ -136,7 +138,8 @@ ring_output = outputs.ring_output 64
 pub cut_ring_is_never_1 : (window : List ℕ) (c : Configuration) (area : Area) → is_ring area ≡ true
     → described_of window ≡ found c
     → (readable running : Bool) (read write n : ℕ)
-    → (taking.found_of 64 (area_of window c area) (area_place c area).length readable read write n ≡ taking.refused 1 → ⊥)
+    → (taking.found_of 64 (area_of window c area) (area_place c area).length readable read write n ≡ taking.refused 1
+    → ⊥)
     × (putting.entered_of 64 (length (area_of window c area)) (area_place c area).length running read write n
     ≡ putting.refused 1 → ⊥)
 cut_ring_is_never_1 window c area is e readable running read write n =

@@ -27,7 +27,8 @@ use Rattle.pcc.proofs.RoundTrip.{every_number}
 use Rattle.mmbi.specs.declared.change.Act.TheVariants.{ClearUp}
 use Rattle.mmbi.specs.declared.change.Change.TheVariants.{Controller}
 use Rattle.mmbi.specs.declared.interface.Flags.{Flags}
-use Rattle.mmbi.specs.Interface.{flags_of, normal_runtime, asked_by_host, asked_by_controller, state_of, may_read, may_write}
+use Rattle.mmbi.specs.Interface.{flags_of, normal_runtime, asked_by_host, asked_by_controller, state_of, may_read}
+use Rattle.mmbi.specs.Interface.{may_write}
 use Rattle.descriptor.specs.declared.configuration.Area.TheVariants.{B2h}
 use Rattle.descriptor.specs.Configuration.{area_place, inside, clear, allowed}
 use Rattle.descriptor.proofs.Literal.{window_image, image_configuration, image_found}
@@ -346,7 +347,8 @@ pub messages_are_put_together : Accepted card (packet_with 0xBD 64 1) middles (p
     (slot_for card.slots (key_of (packet_with 0xBD 64 1)))
 unfolding expired_to sum_of
 messages_are_put_together =
-    demands.messages_are_put_together crowded empty 4294967000 (packet_with 0xBD 64 1) middles 1500 (packet_with 0x5D 2 3)
+    demands.messages_are_put_together crowded empty 4294967000 (packet_with 0xBD 64 1) middles 1500
+    (packet_with 0x5D 2 3)
     steps.whole
 
 -- which says: held in slot 0 and not again, the middle held, done; the message; and the slot is free
@@ -394,9 +396,11 @@ regions_bring : (time : ℕ) → packets_of 64 (by_regions time)
     ≡ (7, packet_with 0x80 1 7) ∷ (time, packet_with 0x50 1 8) ∷ []
 unfolding packets_of
 regions_bring time =
-    let first = (demands.every_packet_by_pcc (packet_with 0x80 1 7) 3 true (all_bytes_lem (packet_with 0x80 1 7) tt) refl
+    let first = (demands.every_packet_by_pcc (packet_with 0x80 1 7) 3 true
+    (all_bytes_lem (packet_with 0x80 1 7) tt) refl
     (lit≤ tt)).1 in
-    let second = (demands.every_packet_by_pcc (packet_with 0x50 1 8) 3 true (all_bytes_lem (packet_with 0x50 1 8) tt) refl
+    let second = (demands.every_packet_by_pcc (packet_with 0x50 1 8) 3 true
+    (all_bytes_lem (packet_with 0x50 1 8) tt) refl
     (lit≤ tt)).1 in
     λ j. packet_in 7 (first j) ++ (packet_in time (second j) ++ [])
 

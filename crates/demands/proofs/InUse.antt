@@ -59,7 +59,8 @@ pub the_path_does_not_matter_among_calls : (r : Receiver) (m : List ℕ) (uses :
     → used 64 r m uses ≡ run 64 r m (bare_calls 64 uses)
 the_path_does_not_matter_among_calls r m uses = used_alike 64 uses r m
 
--- "Store both and keep them true through every call.": in every state that an arrival, a packet given directly or a slot
+-- "Store both and keep them true through every call.": in every state that an arrival, a packet given directly or a
+-- slot
 -- freed leaves of a right one
 pub true_after_every_use : (r : Receiver) (m : List ℕ) (u : Use) → right_state 64 r ≡ true
     → SlotsTold (used_once 64 r m u).receiver
@@ -67,7 +68,8 @@ true_after_every_use r m (arrives a) e =
     slots_told 64 (arrival 64 a.0 r m a.1).receiver (arrived_right 64 a.0 r m (brings 64 a.1) e)
 true_after_every_use r m (calls c) e = slots_told 64 (called 64 r m c).receiver (called_right 64 r m c e)
 
--- the panel shows all four after every list of uses, from every set-up, with any memory; arrivals without a packet count
+-- the panel shows all four after every list of uses, from every set-up, with any memory; arrivals without a packet
+-- count
 -- nothing
 pub the_panel_shows_all_four_in_use : (s : Setup) (m : List ℕ) (uses : List Use)
     → Shows (used 64 (set_up_of s) m uses).receiver (used 64 (set_up_of s) m uses).answers

@@ -101,7 +101,8 @@ pub one_wrong_sight_is_survived : BackWithin 16 (in_turn the_host 16)
     (misled the_controller acknowledged (after (asks the_controller ∷ []) running))
 unfolding after
 one_wrong_sight_is_survived =
-    resets.one_wrong_sight_is_survived (asks the_controller ∷ []) the_controller acknowledged to_ask 2 (in_turn the_host 16)
+    resets.one_wrong_sight_is_survived (asks the_controller ∷ []) the_controller acknowledged to_ask 2
+    (in_turn the_host 16)
     (fair_order 2 (in_turn the_host 16) fair_orders.0) (lit≤ tt)
   where
     to_ask : beyond_help the_controller acknowledged (after (asks the_controller ∷ []) running) ≡ false
@@ -116,7 +117,8 @@ pub a_step_is_stored_beside_any_pointer :
     interface_in (stored_flags window_image image_configuration (Host SetReset)) image_configuration
     ≡ reflagged (interface_in window_image image_configuration) asked_by_host
 a_step_is_stored_beside_any_pointer =
-    resets.a_step_is_stored_beside_any_pointer window_image image_configuration (all_bytes_lem window_image tt) image_allowed
+    resets.a_step_is_stored_beside_any_pointer window_image image_configuration
+    (all_bytes_lem window_image tt) image_allowed
     (inl (lit≤ tt)) (Host SetReset)
     ∙ rw image_words
 
@@ -147,7 +149,8 @@ turned_zeros = refl
 -- of the two packets that the host offered, the one that came before the flags left 1010 was stored
 turned_sent : ((after_all 64 room turned begin).h2b.sent ≡ literal_packet ∷ [])
     × ((after_all 64 room turned begin).b2h.sent ≡ (literal_packet ++ literal_packet) ∷ [])
-unfolding after_all host_step controller_step put drain wrote entered_of filled_of room_of next_of state_of stored round_from
+unfolding after_all host_step controller_step put drain wrote entered_of filled_of room_of next_of state_of stored
+    round_from
     fronted ring_bytes word_bytes
 turned_sent = (refl, refl)
 
@@ -171,7 +174,8 @@ onwards =
 
 pub got_onwards : ((after_all 64 room onwards begin).b2h.got ≡ (literal_packet ++ literal_packet) ∷ literal_packet ∷ [])
     × ((after_all 64 room onwards begin).b2h.read ≡ 12)
-unfolding after_all host_step controller_step put drain wrote entered_of filled_of room_of next_of state_of stored round_from
+unfolding after_all host_step controller_step put drain wrote entered_of filled_of room_of next_of state_of stored
+    round_from
     fronted ring_bytes word_bytes drained found_of judged packet_of header_for word_at
 got_onwards = (refl, refl)
 
@@ -187,7 +191,8 @@ offered_sent : (after_all 64 room offered begin).h2b.sent ≡ literal_packet ∷
 unfolding after_all put entered_of filled_of room_of next_of state_of
 offered_sent = refl
 
-pub what_was_sent_can_be_got : (turns.both_drained 64 room (after_all 64 room offered begin)).h2b.got ≡ literal_packet ∷ []
+pub what_was_sent_can_be_got : (turns.both_drained 64 room (after_all 64 room offered begin)).h2b.got
+    ≡ literal_packet ∷ []
 unfolding drain
 what_was_sent_can_be_got =
     (resets.what_was_sent_can_be_got room (replicate 128 0) 124 (replicate 128 0) 0 (lit≤ tt) refl refl offered

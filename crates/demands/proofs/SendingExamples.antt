@@ -219,5 +219,6 @@ pub nothing_is_written_to_a_ring :
     ring_written 64 answering message130 0 (replicate 128 5) 128 normal_runtime (empty_pointers 1) ≡ replicate 128 5
 unfolding ring_entered cut_refusal packet_at header_bytes rings.entered_of state_of
 nothing_is_written_to_a_ring =
-    sending.nothing_is_written_to_a_ring answering message130 0 (replicate 128 5) 128 normal_runtime (empty_pointers 1) 12
+    sending.nothing_is_written_to_a_ring answering message130 0 (replicate 128 5) 128 normal_runtime
+    (empty_pointers 1) 12
     refl

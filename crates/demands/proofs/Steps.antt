@@ -97,7 +97,8 @@ pub record Steps : Type 0 where
 
 pub steps : Steps
 unfolding run step_of offered_to expired_to decided ruled on_start on_follow gathered
-    after slot_of lowest_free first_of header_of key_of same_key right_state right_slot right_numbers multiple clash laid
+    after slot_of lowest_free first_of header_of key_of same_key right_state right_slot right_numbers multiple clash
+    laid
     free_refusal sum_of
     slot_for Middles
 steps =

@@ -18,7 +18,8 @@ use Rattle.slots.specs.declared.state.Receiver.{Receiver}
 use Rattle.slots.specs.Slots.{free_slot, slot_at}
 use Rattle.slots.specs.State.{right_state}
 use Rattle.slots.specs.Tallies.{one_gathering, bytes_held, next_tally}
-use Rattle.slots.specs.Changes.{fresh, with_slot, with_offered, with_done, with_tallies, set_up_of, free_refusal, freed_of}
+use Rattle.slots.specs.Changes.{fresh, with_slot, with_offered, with_done, with_tallies, set_up_of, free_refusal}
+use Rattle.slots.specs.Changes.{freed_of}
 use Rattle.slots.proofs.States.{right_of, tallies_move, told_stays}
 use Rattle.slots.specs.Ages.{expired}
 use Rattle.slots.proofs.Ages.{expired_right}
@@ -58,7 +59,8 @@ pub true_after_a_slot_is_set : (r : Receiver) (i : ℕ) (x : Slot) → right_sta
     → bytes_held x.state ≤ 65535 → SlotsTold (with_slot r i x)
 true_after_a_slot_is_set r i x e = told_stays 64 r i x (right_of 64 r e)
 
-pub true_after_counting : (r : Receiver) → right_state 64 r ≡ true → SlotsTold (with_offered r) × SlotsTold (with_done r)
+pub true_after_counting : (r : Receiver) → right_state 64 r ≡ true → SlotsTold (with_offered r)
+    × SlotsTold (with_done r)
 true_after_counting r e = (slots_told 64 r e, slots_told 64 r e)
 
 -- "Add two more: packets offered to the message rules, and messages done. The last two are defined from the list of
@@ -183,7 +185,8 @@ a_restart_that_ends time r m p i q u h right sized starts ends low gathers =
     ap (λ (l : Left). l.receiver) (start_done 64 time r m p right sized starts (omega (arith, at, low)) ends)
     ∙ ap (λ (j : ℕ). with_done (with_slot (with_offered before) j free_slot)) at in
     let moves = tallies_move 64 (with_offered before) i free_slot (right_of 64 (with_offered before) counted)
-    (right_of 64 (with_slot (with_offered before) i free_slot) (free_right 64 (with_offered before) i low counted)) low in
+    (right_of 64 (with_slot (with_offered before) i free_slot) (free_right 64 (with_offered before) i low counted)) low
+    in
     rw step (
       omega (arith, moves.0, ap one_gathering gathers),
       omega (arith, moves.1, ap bytes_held gathers),

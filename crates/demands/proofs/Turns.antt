@@ -9,7 +9,8 @@ use native.Mathlib.Omega.{arith}
 use lib.ListN.{length, replicate, length-replicate}
 use Rattle.octets.proofs.Choice.{both, pick_elim, either_way, implies, implied, implied_not, within_holds}
 use Rattle.mmbi.specs.declared.interface.Flags.{Flags}
-use Rattle.mmbi.specs.Interface.{same_flags, normal_runtime, asked_by_host, asked_by_controller, all_clear, state_of, may_read}
+use Rattle.mmbi.specs.Interface.{same_flags, normal_runtime, asked_by_host, asked_by_controller, all_clear, state_of}
+use Rattle.mmbi.specs.Interface.{may_read}
 use Rattle.mmbi.specs.Interface.{may_write}
 use Rattle.mmbi.specs.Pointers.{pointer_right}
 use Rattle.mmbi.proofs.PointerNumbers.{pointer_facts}

@@ -86,7 +86,8 @@ Mixed ran =
 
 mixed_runs : Mixed (run 64 card empty bare)
 unfolding run step_of offered_to expired_to free_refusal freed_of decided ruled on_start
-    on_follow gathered after slot_of lowest_free first_of header_of key_of same_key right_state right_slot right_numbers multiple
+    on_follow gathered after slot_of lowest_free first_of header_of key_of same_key right_state right_slot
+    right_numbers multiple
     clash laid sum_of
 mixed_runs = (refl, refl, refl)
 

@@ -66,7 +66,8 @@ module _ (most : ℕ) (heading : Heading) (message : List ℕ) (k : ℕ) where
   -- packet k, sent this way, is what its arrival brings
   pub sent_brings : (way : Way) → Goes most heading message way k
       → brings most (arrival_of most heading message way k) ≡ packet p (beside_of most heading message way k)
-  unfolding smbus_refusal smbus_size smbus_written frames.size_of pcc_refusal pcc_written ring_entered ring_written state_of
+  unfolding smbus_refusal smbus_size smbus_written frames.size_of pcc_refusal pcc_written ring_entered ring_written
+      state_of
   sent_brings (smbus_way out destination source) e =
       let number = frames.write_refusal most (length out) (length p) destination source in
       let zeros = both_numbers (λ (n : ℕ). n) cut number cut refl e in
@@ -98,7 +99,8 @@ module _ (most : ℕ) (heading : Heading) (message : List ℕ) (ways : ℕ → W
 
   -- "Packet k also goes straight onto any of the three paths.": what is sent in any mix of paths brings the message's
   -- packets, in order, and nothing else
-  pub sent_packets : (time : ℕ) → ((k : ℕ) → k < packets_in most (length message) → Goes most heading message (ways k) k)
+  pub sent_packets : (time : ℕ) → ((k : ℕ) → k < packets_in most (length message)
+      → Goes most heading message (ways k) k)
       → packets_of most (at_once time (arrivals most heading message ways))
       ≡ at_once time (all_packets most heading message)
   sent_packets time goes = sent_from time 0 (packets_in most (length message)) (λ k low high. goes k (omega arith))

@@ -144,7 +144,8 @@ fields = refl
 -- of zeros
 pub nine :
     map numbered
-    (map (λ (i : ℕ). set window_image i 0) (0 ∷ 1 ∷ 2 ∷ 3 ∷ 4 ∷ 5 ∷ []) ++ (take 63 window_image ∷ replicate 340 0 ∷ []))
+    (map (λ (i : ℕ). set window_image i 0) (0 ∷ 1 ∷ 2 ∷ 3 ∷ 4 ∷ 5 ∷ []) ++ (take 63 window_image ∷ replicate 340 0
+    ∷ []))
     ≡ replicate 8 9
 unfolding described_of signature_right configuration_in allowed inside clear word_at
 nine = refl

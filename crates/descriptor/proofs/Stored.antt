@@ -96,7 +96,8 @@ module _ (n : ℕ) (c : Configuration) where
       (below-append (structures c) _ (words_below _) (below_zeros (n - 40)))))
 
   module _ (ok : allowed n c ≡ true) (bases : Bases c) where
-    base : (b : ℕ) → b % 8 ≡ 0 → b < 2 ^ 32 → word_at high_first (word_bytes high_first (b / 8) ++ []) 0 % 536870912 * 8 ≡ b
+    base : (b : ℕ) → b % 8 ≡ 0 → b < 2 ^ 32 → word_at high_first
+        (word_bytes high_first (b / 8) ++ []) 0 % 536870912 * 8 ≡ b
     base b h k = rw (word_back high_first (b / 8) [] (omega arith)) (base_back b h k)
 
     size : (l : ℕ) → length_right l ≡ true → word_at high_first (word_bytes high_first l ++ []) 0 ≡ l

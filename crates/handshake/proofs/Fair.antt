@@ -197,7 +197,8 @@ fair_order = fair_at
 -- in turn, which is fair with k = 2; and the host twice, then the controller, which is fair with k = 3 and not with 2
 abbrev pub uneven : List End
 uneven =
-    the_host ∷ the_host ∷ the_controller ∷ the_host ∷ the_host ∷ the_controller ∷ the_host ∷ the_host ∷ the_controller ∷ the_host
+    the_host ∷ the_host ∷ the_controller ∷ the_host ∷ the_host ∷ the_controller ∷ the_host ∷ the_host ∷ the_controller
+    ∷ the_host
     ∷ the_host ∷ the_controller ∷ the_host ∷ the_host ∷ the_controller ∷ the_host ∷ the_host ∷ the_controller ∷ the_host
     ∷ the_host ∷ the_controller ∷ []
 

@@ -83,14 +83,16 @@ pub every_controller : (test : ControllerPhase → Bool) → every_of test contr
     → test phase ≡ true
 every_controller test e phase =
     subst (λ (p : ControllerPhase). test p ≡ true) (controller_at_lem phase)
-    (every_of_lem test controller.Running (both (test controller.Running) _ e).0 controllers e (controller_number phase))
+    (every_of_lem test controller.Running (both (test controller.Running) _ e).0 controllers e
+    (controller_number phase))
 
 -- no refusal has the number 0
 not_good : (r : Refusal) → 0 ≡ number_of r → ⊥
 not_good r e = omega (arith, number_positive r)
 
 -- two answers with the same numbers are one answer
-pub host_stored_equal : (a b : StoredHostPhase) → host_refusal a ≡ host_refusal b → host_stored a ≡ host_stored b → a ≡ b
+pub host_stored_equal : (a b : StoredHostPhase) → host_refusal a ≡ host_refusal b → host_stored a ≡ host_stored b
+    → a ≡ b
 host_stored_equal (host-stored.Phase p) (host-stored.Phase q) e n = ap host-stored.Phase (host_injective p q n)
 host_stored_equal (host-stored.Phase p) (host-stored.Refused r) e n = absurd (not_good r e)
 host_stored_equal (host-stored.Refused r) (host-stored.Phase q) e n = absurd (not_good r (sym e))

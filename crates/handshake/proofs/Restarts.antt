@@ -52,7 +52,8 @@ not_acted : (order : List Flags) → every_flags (acts_by_row order) ≡ true �
     → among order f ≡ false
 not_acted order t f n = implied_not (among order f) (has_row f) (every_flags_lem (acts_by_row order) t f) n
 
-pub host_waits_without_a_row : (phase : HostPhase) (f : Flags) → has_row f ≡ false → host_step phase f ≡ host_waits phase
+pub host_waits_without_a_row : (phase : HostPhase) (f : Flags) → has_row f ≡ false
+    → host_step phase f ≡ host_waits phase
 host_waits_without_a_row phase f n = host_waits_lem phase f (acted phase)
   where
     acted : (phase : HostPhase) → among (host_order phase) f ≡ false
@@ -133,7 +134,8 @@ module _ (e : Ends) (can : finishes e ≡ true) where
   finishing_has_row = found.0
 
   pub finishes_restarted : (end : End) → finishes (restarted end e) ≡ true
-  finishes_restarted the_host = (both (finishes (restarted the_host e)) (finishes (restarted the_controller e)) found.1).0
+  finishes_restarted the_host = (both (finishes (restarted the_host e))
+      (finishes (restarted the_controller e)) found.1).0
   finishes_restarted the_controller =
       (both (finishes (restarted the_host e)) (finishes (restarted the_controller e)) found.1).1
 

@@ -34,6 +34,7 @@ unfolding trace host_step controller_step
 traces = (refl, refl, refl, refl, refl, refl)
 
 -- where the steps don't lead back, one more than there are is counted; and nothing is to be counted where it is back
-pub counted_out : (steps_back (in_turn the_host 10) (asking host_asks) ≡ 11) × (steps_back (in_turn the_host 3) running ≡ 0)
+pub counted_out : (steps_back (in_turn the_host 10) (asking host_asks) ≡ 11)
+    × (steps_back (in_turn the_host 3) running ≡ 0)
 unfolding steps_back host_step controller_step
 counted_out = (refl, refl)

@@ -1,7 +1,8 @@
 -- When normal runtime is back: after a counted number of steps in turn, within a bound in any fair order, and after a
 -- wrong sight of the flags (document 02, #105).
 -- Assumes nothing.
-use Rattle.std.specs.Prelude.{◌≡◌, Bool, true, false, ◌&&◌, ◌||◌, List, [], ◌∷◌, map, ℕ, zero, suc, ◌+◌, ◌≤◌, length, take, drop}
+use Rattle.std.specs.Prelude.{◌≡◌, Bool, true, false, ◌&&◌, ◌||◌, List, [], ◌∷◌, map, ℕ, zero, suc, ◌+◌, ◌≤◌, length}
+use Rattle.std.specs.Prelude.{take, drop}
 use Rattle.octets.specs.Choice.{pick}
 use Rattle.mmbi.specs.declared.interface.Flags.{Flags}
 use Rattle.mmbi.specs.Interface.{same_flags, normal_runtime, asked_by_host, acknowledged, completed, all_clear}
@@ -97,4 +98,5 @@ beyond_help the_host seen e = host_is e.host host.Waiting && same_flags seen com
 beyond_help the_controller seen e =
     (controller_is e.controller controller.Asked && same_flags seen acknowledged)
     || (same_flags e.flags completed
-    && (same_flags seen asked_by_host || (controller_is e.controller controller.Asking && same_flags seen normal_runtime)))
+    && (same_flags seen asked_by_host || (controller_is e.controller controller.Asking
+    && same_flags seen normal_runtime)))

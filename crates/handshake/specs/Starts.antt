@@ -3,7 +3,8 @@
 use Rattle.std.specs.Prelude.{Bool, ◌||◌, List, [], ◌∷◌}
 use Rattle.octets.specs.Choice.{pick}
 use Rattle.mmbi.specs.declared.interface.Flags.{Flags}
-use Rattle.mmbi.specs.Interface.{same_flags, normal_runtime, asked_by_host, asked_by_controller, acknowledged, transitioning}
+use Rattle.mmbi.specs.Interface.{same_flags, normal_runtime, asked_by_host, asked_by_controller, acknowledged}
+use Rattle.mmbi.specs.Interface.{transitioning}
 use Rattle.mmbi.specs.Interface.{host_cleared, all_clear, completed}
 use Rattle.handshake.specs.declared.controller.ControllerPhase.{ControllerPhase}
 use Rattle.handshake.specs.declared.controller.ControllerPhase.TheVariants as controller
@@ -33,7 +34,8 @@ power_up = record { flags = all_clear; host = host_at_power_up; controller = con
 -- 0111, 0100, 0000, 1000
 abbrev pub has_row : Flags → Bool
 has_row f =
-    same_flags f normal_runtime || same_flags f asked_by_host || same_flags f asked_by_controller || same_flags f acknowledged
+    same_flags f normal_runtime || same_flags f asked_by_host || same_flags f asked_by_controller
+    || same_flags f acknowledged
     || same_flags f transitioning || same_flags f host_cleared || same_flags f all_clear || same_flags f completed
 
 -- "MMBI data structures can be reinitialized after the reset to allow a clean restart": the host asks anew while it is

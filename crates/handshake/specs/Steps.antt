@@ -6,7 +6,8 @@ use Rattle.mmbi.specs.declared.change.Act.TheVariants.{SetUp, ClearUp, SetReset,
 use Rattle.mmbi.specs.declared.change.Change.{Change}
 use Rattle.mmbi.specs.declared.change.Change.TheVariants.{Nothing, Host, Controller}
 use Rattle.mmbi.specs.declared.interface.Flags.{Flags}
-use Rattle.mmbi.specs.Interface.{same_flags, normal_runtime, asked_by_host, asked_by_controller, acknowledged, transitioning}
+use Rattle.mmbi.specs.Interface.{same_flags, normal_runtime, asked_by_host, asked_by_controller, acknowledged}
+use Rattle.mmbi.specs.Interface.{transitioning}
 use Rattle.mmbi.specs.Interface.{host_cleared, all_clear, completed}
 use Rattle.handshake.specs.declared.host.HostPhase.{HostPhase}
 use Rattle.handshake.specs.declared.host.HostPhase.TheVariants as host

@@ -19,7 +19,13 @@ key_of p =
 
 -- the whole header of a packet
 unfoldable pub header_of : List ℕ → Header
-header_of p = record { version = version_of p; start = start_of p; end = end_of p; sequence = sequence_of p; key = key_of p }
+header_of p = record {
+  version = version_of p;
+  start = start_of p;
+  end = end_of p;
+  sequence = sequence_of p;
+  key = key_of p;
+}
 
 -- a flag as a number
 abbrev pub bit : Bool → ℕ

@@ -31,7 +31,8 @@ abbrev shown : ℕ → ℕ → ℕ → ℕ → Tallies
 shown slots bytes packets messages = (tallied slots bytes packets messages card).tallies
 
 -- "1,024 bytes held, then one more": 22, and the slot is free; up to 1,024 is held
-pub one_more_lem : step_of 64 0 (with_slots_lem (gathering 5 1024) (gathering 6 64) (gathering 7 64) (gathering 4 64)) empty
+pub one_more_lem : step_of 64 0 (with_slots_lem (gathering 5 1024) (gathering 6 64) (gathering 7 64) (gathering 4 64))
+    empty
     (packet 0x5D 1 7)
     ≡ record {
       said = refused 22;
@@ -39,13 +40,16 @@ pub one_more_lem : step_of 64 0 (with_slots_lem (gathering 5 1024) (gathering 6 
       memory = empty;
     }
 unfolding step_of offered_to expired_to decided ruled on_start on_follow gathered
-    after slot_of lowest_free first_of header_of key_of same_key right_state right_slot right_numbers multiple clash laid sum_of
+    after slot_of lowest_free first_of header_of key_of same_key right_state right_slot right_numbers multiple clash
+    laid sum_of
 one_more_lem = refl
 
-pub up_to_the_end : (step_of 64 0 (with_slots_lem (gathering 5 960) (gathering 6 64) (gathering 7 64) (gathering 4 64)) empty
+pub up_to_the_end : (step_of 64 0 (with_slots_lem (gathering 5 960) (gathering 6 64) (gathering 7 64) (gathering 4 64))
+    empty
     (packet 0x5D 64 7)).said ≡ done 0 1024 false
 unfolding step_of offered_to expired_to decided ruled on_start on_follow gathered
-    after slot_of lowest_free first_of header_of key_of same_key right_state right_slot right_numbers multiple clash laid sum_of
+    after slot_of lowest_free first_of header_of key_of same_key right_state right_slot right_numbers multiple clash
+    laid sum_of
 up_to_the_end = refl
 
 -- "Fifth key: 18; after a slot is freed it is taken."
@@ -53,15 +57,18 @@ pub fifth_key : (run 64 (with_slots_lem (gathering 4 64) (gathering 5 64) (gathe
     (give 0 (packet 0x88 1 7) ∷ free 2 ∷ give 0 (packet 0x88 1 7) ∷ [])).answers
     ≡ rules (refused 18) ∷ freed 0 ∷ rules (held 2 1 false) ∷ []
 unfolding run step_of offered_to expired_to free_refusal freed_of decided ruled on_start
-    on_follow gathered after slot_of lowest_free first_of header_of key_of same_key right_state right_slot right_numbers multiple
+    on_follow gathered after slot_of lowest_free first_of header_of key_of same_key right_state right_slot
+    right_numbers multiple
     clash laid sum_of
 fifth_key = refl
 
 -- "A sequence that must begin at 0. Any first number is right."
-pub any_first_sequence : map (λ (q : ℕ). (step_of 64 0 card empty (packet (0x80 + 16 * q) 1 7)).said) (0 ∷ 1 ∷ 2 ∷ 3 ∷ [])
+pub any_first_sequence : map (λ (q : ℕ). (step_of 64 0 card empty (packet (0x80 + 16 * q) 1 7)).said)
+    (0 ∷ 1 ∷ 2 ∷ 3 ∷ [])
     ≡ held 0 1 false ∷ held 0 1 false ∷ held 0 1 false ∷ held 0 1 false ∷ []
 unfolding step_of offered_to expired_to decided ruled on_start on_follow gathered
-    after slot_of lowest_free first_of header_of key_of same_key right_state right_slot right_numbers multiple clash laid sum_of
+    after slot_of lowest_free first_of header_of key_of same_key right_state right_slot right_numbers multiple clash
+    laid sum_of
 any_first_sequence = refl
 
 -- "fed at one time": each with that count
@@ -73,7 +80,8 @@ pub restart_says_again : (run_packets 64 card empty
     (at_once 0 (packet 0x80 1 7 ∷ packet 0x80 2 7 ∷ packet 0xC0 3 7 ∷ packet 0xC0 4 7 ∷ []))).answers
     ≡ rules (held 0 1 false) ∷ rules (held 0 2 true) ∷ rules (done 0 3 true) ∷ rules (done 0 4 false) ∷ []
 unfolding run step_of offered_to expired_to decided ruled on_start on_follow
-    gathered after slot_of lowest_free first_of header_of key_of same_key right_state right_slot right_numbers multiple clash
+    gathered after slot_of lowest_free first_of header_of key_of same_key right_state right_slot right_numbers multiple
+    clash
     laid sum_of
 restart_says_again = refl
 
@@ -88,7 +96,8 @@ pub fourth_slot : run_packets 64 (with_slots_lem (gathering 4 64) (gathering 5 6
     }
 unfolding run step_of offered_to expired_to decided ruled on_start on_follow
     gathered
-    after slot_of lowest_free first_of header_of key_of same_key right_state right_slot right_numbers multiple clash laid sum_of
+    after slot_of lowest_free first_of header_of key_of same_key right_state right_slot right_numbers multiple clash
+    laid sum_of
 fourth_slot = refl
 
 -- "packets offered": of the numbers that a refusal has, 3 and 15 to 22
@@ -136,7 +145,8 @@ pub panel_after : map (λ (n : ℕ). (run 64 card empty (take n calls)).receiver
     ∷ shown 0 0 10 1
     ∷ []
 unfolding run step_of offered_to expired_to free_refusal freed_of decided ruled on_start
-    on_follow gathered after slot_of lowest_free first_of header_of key_of same_key right_state right_slot right_numbers multiple
+    on_follow gathered after slot_of lowest_free first_of header_of key_of same_key right_state right_slot
+    right_numbers multiple
     clash laid sum_of
 panel_after = refl
 
@@ -145,7 +155,8 @@ pub answered : (run 64 card empty calls).answers
     ∷ refused 19 ∷ refused 20 ∷ done 0 1 false ∷ [])
     ++ (freed 0 ∷ freed 1 ∷ [])
 unfolding run step_of offered_to expired_to free_refusal freed_of decided ruled on_start
-    on_follow gathered after slot_of lowest_free first_of header_of key_of same_key right_state right_slot right_numbers multiple
+    on_follow gathered after slot_of lowest_free first_of header_of key_of same_key right_state right_slot
+    right_numbers multiple
     clash laid sum_of
 answered = refl
 
@@ -162,7 +173,8 @@ pub both_stop : map
     ∷ tallied 0 0 4294967295 4294967295 card ∷ [])
     ≡ shown 0 0 4294967295 4294967294 ∷ shown 0 0 4294967295 4294967295 ∷ shown 0 0 4294967295 4294967295 ∷ []
 unfolding step_of offered_to expired_to decided ruled on_start on_follow gathered
-    after slot_of lowest_free first_of header_of key_of same_key right_state right_slot right_numbers multiple clash laid sum_of
+    after slot_of lowest_free first_of header_of key_of same_key right_state right_slot right_numbers multiple clash
+    laid sum_of
 both_stop = refl
 
 -- "1 and 2 count nothing": a state whose tallies are wrong, and no memory
@@ -177,18 +189,21 @@ uncounted = (refl, refl)
 pub done_again : (run_packets 64 card empty (at_once 0 (packet 0x80 1 7 ∷ packet 0xC0 3 7 ∷ []))).receiver.tallies
     ≡ shown 0 0 2 1
 unfolding run step_of offered_to expired_to decided ruled on_start on_follow
-    gathered after slot_of lowest_free first_of header_of key_of same_key right_state right_slot right_numbers multiple clash
+    gathered after slot_of lowest_free first_of header_of key_of same_key right_state right_slot right_numbers multiple
+    clash
     laid sum_of
 done_again = refl
 
 -- a fifth key (18), and a middle of another size (21), which frees its slot
 pub full_and_size : map
-    (λ (p : List ℕ). (step_of 64 0 (with_slots_lem (gathering 4 64) (gathering 5 64) (gathering 6 64) (gathering 7 64)) empty
+    (λ (p : List ℕ). (step_of 64 0 (with_slots_lem (gathering 4 64) (gathering 5 64) (gathering 6 64) (gathering 7 64))
+    empty
     p).receiver.tallies)
     (packet 0x88 1 7 ∷ packet 0x1D 63 7 ∷ [])
     ≡ shown 4 256 1 0 ∷ shown 3 192 1 0 ∷ []
 unfolding step_of offered_to expired_to decided ruled on_start on_follow gathered
-    after slot_of lowest_free first_of header_of key_of same_key right_state right_slot right_numbers multiple clash laid sum_of
+    after slot_of lowest_free first_of header_of key_of same_key right_state right_slot right_numbers multiple clash
+    laid sum_of
 full_and_size = refl
 
 -- a message by its slot and length: from the front of each slot, on into the next one where it is longer, as far as the

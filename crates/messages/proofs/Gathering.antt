@@ -161,7 +161,8 @@ module _ (most time : ℕ) (r : Receiver) (m : List ℕ) (k : Key) (i since last
       let then = after_middle p unit total e
       ∙ ap (λ (j : Key). Gathering j (sequence_of p) unit total) F.key in
       step_is_offered most time r m p G.right G.memory
-      ∙ ap (λ (d : Decision). carried_out time (after_offer q d) m p d) (appended ∙ ap (put i (length sofar) false) then)
+      ∙ ap (λ (d : Decision). carried_out time (after_offer q d) m p d) (appended
+      ∙ ap (put i (length sofar) false) then)
 
   -- an end: done, with their total, and the slot is free
   pub end_step : end_of p ≡ true → step_of most time r m p

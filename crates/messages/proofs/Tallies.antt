@@ -26,7 +26,8 @@ use Rattle.slots.proofs.States.{right_of}
 use Rattle.slots.proofs.Changes.{set_up_right_lem}
 use Rattle.decision.specs.Decision.{aged_of}
 use Rattle.decision.proofs.DecidedRules.{frees_none, every_decision}
-use Rattle.receiver.specs.Step.{Said, refused, answer_of, after_put, slot_in, carried_out, after_offer, offered_to, step_of}
+use Rattle.receiver.specs.Step.{Said, refused, answer_of, after_put, slot_in, carried_out, after_offer, offered_to}
+use Rattle.receiver.specs.Step.{step_of}
 use Rattle.receiver.proofs.Offered.{put_fields}
 use Rattle.receiver.proofs.Laws.{aged_counts}
 use Rattle.messages.specs.Run.{Call, give, free, called, run}

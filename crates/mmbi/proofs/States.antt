@@ -133,7 +133,8 @@ all_may_write = refl
 -- the flags that have a name, and their states
 abbrev pub named_flags : List Flags
 named_flags =
-    all_clear ∷ host_cleared ∷ transitioning ∷ completed ∷ normal_runtime ∷ asked_by_host ∷ asked_by_controller ∷ acknowledged
+    all_clear ∷ host_cleared ∷ transitioning ∷ completed ∷ normal_runtime ∷ asked_by_host ∷ asked_by_controller
+    ∷ acknowledged
     ∷ []
 
 pub named_digits : map digits named_flags ≡ 0 ∷ 4 ∷ 7 ∷ 8 ∷ 10 ∷ 11 ∷ 14 ∷ 15 ∷ []

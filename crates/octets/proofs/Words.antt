@@ -82,7 +82,8 @@ four (a ∷ b ∷ c ∷ d ∷ s) h = refl
 standing : (s : List ℕ) (at : ℕ) → at + 4 ≤ length s
     → take 4 (drop at s) ≡ get_or s at 0 ∷ get_or s (at + 1) 0 ∷ get_or s (at + 2) 0 ∷ get_or s (at + 3) 0 ∷ []
 standing s at h =
-    let first : get_or (drop at s) 0 0 ≡ get_or s at 0 = get_or-drop at s 0 0 ∙ ap (λ (k : ℕ). get_or s k 0) (add-zero at) in
+    let first : get_or (drop at s) 0 0 ≡ get_or s at 0 =
+    get_or-drop at s 0 0 ∙ ap (λ (k : ℕ). get_or s k 0) (add-zero at) in
     let rest : (k : ℕ) → get_or (drop at s) k 0 ≡ get_or s (at + k) 0 = λ (k : ℕ). get_or-drop at s k 0 in
     four (drop at s) (rw length-drop (omega arith)) ∙ (λ i. first i ∷ rest 1 i ∷ rest 2 i ∷ rest 3 i ∷ [])
 

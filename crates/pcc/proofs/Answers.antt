@@ -30,7 +30,11 @@ module _ (most : ℕ) (region : List ℕ) (id : ℕ) where
   pub says_good : Good most region id
       → Says (Packet (word_at low_first region 8 - 4) (eqb (word_at low_first region 4 % 2) 1))
   unfolding notify_of
-  says_good g = let e = good_number most region id g in record { number = sym e; size = sym (good_size most region id e); notify = rw e }
+  says_good g = let e = good_number most region id g in record {
+    number = sym e;
+    size = sym (good_size most region id e);
+    notify = rw e;
+  }
 
   -- a refused one gives no byte and a clear flag
   module _ (refused : refusal_of most region id ≡ 0 → ⊥) where

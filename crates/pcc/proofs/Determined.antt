@@ -22,7 +22,8 @@ use Rattle.pcc.proofs.writing.write.Reads as writing
 use Rattle.pcc.proofs.writing.write_apart.Reads as apart
 
 -- the number, the size and the flag are the whole answer
-read_injective : (c d : Carried) → number_read c ≡ number_read d → size_read c ≡ size_read d → notify_read c ≡ notify_read d
+read_injective : (c d : Carried) → number_read c ≡ number_read d → size_read c ≡ size_read d
+    → notify_read c ≡ notify_read d
     → c ≡ d
 read_injective (carried.Packet size notify) (carried.Packet size' notify') e s n = λ i. carried.Packet (s i) (n i)
 read_injective (carried.Packet size notify) (carried.Refused why) e s n = absurd (omega (arith, number_positive why))

@@ -67,7 +67,13 @@ module _ {most id : ℕ} {a b : List ℕ} (same : Alike most id a b) where
       (simp (length-take, length-drop) (ap (λ (n : ℕ). min size (n - 16)) same.lengths))
       (λ i h.
       let k : i < size = omega (arith, simp length-take at h) in
-      rw (get_or-take size (drop 16 a) i 0 k, get_or-take size (drop 16 b) i 0 k, get_or-drop 16 a i 0, get_or-drop 16 b i 0)
+      rw (
+        get_or-take size (drop 16 a) i 0 k,
+        get_or-take size
+            (drop 16 b) i 0 k,
+        get_or-drop 16 a i 0,
+        get_or-drop 16 b i 0,
+      )
       (same.up_to_packet (16 + i) (omega arith) (omega arith)))
       ∙ ap (part_of b) sizes_same
 

@@ -30,7 +30,8 @@ front_bytes id notify packet h =
     (word_before (flags_of notify) from-8
     (word_before (length_of (length packet)) from-12 (word_before command packet h)))
 
-pub every_bytes : (id : ℕ) (notify : Bool) (packet : List ℕ) → Below 256 packet → Below 256 (region_for id notify packet)
+pub every_bytes : (id : ℕ) (notify : Bool) (packet : List ℕ) → Below 256 packet
+    → Below 256 (region_for id notify packet)
 unfolding region_for
 every_bytes id notify packet h =
     let rest = 84 - (16 + length packet) in

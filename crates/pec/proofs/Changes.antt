@@ -21,7 +21,8 @@ change_of width from s t lengths front back differs =
       lengths = lengths;
       from = from;
       before = λ i h.
-          sym (get_or-take from (wire s) i 0 h) ∙ ap (λ (xs : List ℕ). get_or xs i 0) front ∙ get_or-take from (wire t) i 0 h;
+          sym (get_or-take from (wire s) i 0 h) ∙ ap (λ (xs : List ℕ). get_or xs i 0) front
+          ∙ get_or-take from (wire t) i 0 h;
       after = λ i h. let at : i ≡ end + (i - end) = omega arith in rw at (behind (i - end));
       differs = differs;
     }

@@ -82,7 +82,8 @@ unfolding byte_step
 zero_checked s b h e =
     let front = take (length s - 1) s in
     let end = get_or s (length s - 1) 0 in
-    let sum : eight_steps (bit_xor (pec_of front) end) ≡ 0 = sym (ap pec_of (front_last s h) ∙ pec_last front end) ∙ e in
+    let sum : eight_steps (bit_xor (pec_of front) end) ≡ 0 = sym (ap pec_of (front_last s h) ∙ pec_last front end)
+    ∙ e in
     checked_of s h
     (sym (xor_equal (pec_of front) end
     (eight-zero (bit_xor (pec_of front) end) (xor_lt 8 (pec_of front) end (pec_byte front) (b (length s - 1))) sum)))

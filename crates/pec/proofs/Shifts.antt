@@ -94,7 +94,8 @@ times_right h few =
     let b : h / 2 ^ 63 ≡ 0 = omega arith in
     let t = times h in
     let alike : shifted_word h ≡ t =
-    ap₂ (λ (x y : ℕ). let o = bit_xor x y in bit_xor (bit_xor (bit_xor t (o * 2 ^ 4 % 2 ^ 64)) (o * 2 ^ 1 % 2 ^ 64)) o) a b
+    ap₂ (λ (x y : ℕ). let o = bit_xor x y in bit_xor (bit_xor (bit_xor t (o * 2 ^ 4 % 2 ^ 64)) (o * 2 ^ 1 % 2 ^ 64)) o)
+    a b
     ∙ xor_zero_r (bit_xor (bit_xor t 0) 0) ∙ xor_zero_r (bit_xor t 0) ∙ xor_zero_r t in
     ap word_pec (sym alike) ∙ shifted_word_right_lem h (omega arith)
 

@@ -64,7 +64,8 @@ unfolding pec_of pec_from
 pec_plus s t e = fold_plus byte_step byte_plus s t 0 0 e
 
 -- What stands at a place of a sum.
-pub plus_at : (s t : List ℕ) (k : ℕ) → length s ≡ length t → get_or (plus s t) k 0 ≡ bit_xor (get_or s k 0) (get_or t k 0)
+pub plus_at : (s t : List ℕ) (k : ℕ) → length s ≡ length t
+    → get_or (plus s t) k 0 ≡ bit_xor (get_or s k 0) (get_or t k 0)
 unfolding plus
 plus_at [] [] k e = refl
 plus_at [] (b ∷ t) k e = absurd (omega arith)

@@ -10,7 +10,8 @@ use Rattle.pec.specs.Remainder.{eight_steps}
 use Rattle.pec.specs.Table.{entries_right, table_test}
 use Rattle.pec.proofs.Tests.{both}
 
-entry_from : (xs : List ℕ) (i : ℕ) → T (entries_right i xs) → (k : ℕ) → k < length xs → get_or xs k 0 ≡ eight_steps (i + k)
+entry_from : (xs : List ℕ) (i : ℕ) → T (entries_right i xs) → (k : ℕ) → k < length xs
+    → get_or xs k 0 ≡ eight_steps (i + k)
 entry_from [] i t k h = absurd (not-suc-le-zero h)
 entry_from (x ∷ xs) i t zero h =
     rw add-zero (eqb→eq x (eight_steps i) (both (eqb x (eight_steps i)) (entries_right (suc i) xs) t).0)

@@ -42,7 +42,8 @@ xor_assoc a =
     bin_ind (λ (n : ℕ). (b c : ℕ) → bit_xor (bit_xor n b) c ≡ bit_xor n (bit_xor b c)) (λ b c. refl)
     (λ n ih b c. xor_step (bit_xor n b) c
     ∙ ap₂ (λ (x y : ℕ). x * 2 + y)
-    (ap (λ (x : ℕ). bit_xor x (c / 2)) (xor_shr n b 1) ∙ ih (b / 2) (c / 2) ∙ ap (bit_xor (n / 2)) (sym (xor_shr b c 1)))
+    (ap (λ (x : ℕ). bit_xor x (c / 2)) (xor_shr n b 1) ∙ ih (b / 2) (c / 2)
+    ∙ ap (bit_xor (n / 2)) (sym (xor_shr b c 1)))
     (odd_assoc n b c)
     ∙ sym (xor_step n (bit_xor b c))) a
 

@@ -65,7 +65,8 @@ found_brings s ring.empty = none empty
 found_brings s (ring.skipped number next) = none (skipped number next)
 found_brings s (ring.refused number) = none (refused number)
 
-unfoldable pub ring_brings : (most : ℕ) (bytes : List ℕ) (configured : ℕ) (flags : Flags) (read write : ℕ) (out : List ℕ)
+unfoldable pub ring_brings : (most : ℕ) (bytes : List ℕ) (configured : ℕ) (flags : Flags) (read write : ℕ)
+    (out : List ℕ)
     → Brought
 ring_brings most bytes configured flags read write out =
     found_brings (round_from read bytes)

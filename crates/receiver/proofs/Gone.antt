@@ -42,7 +42,8 @@ unfolding after header_of
 after_key k p unit n e = by_end (end_of p) e
   where
     by_end : (b : Bool) → has_key k (pick b Free (Gathering (key_of p) (sequence_of p) unit n)) ≡ true
-        → (key_of p ≡ k) × (pick b Free (Gathering (key_of p) (sequence_of p) unit n) ≡ Gathering k (sequence_of p) unit n)
+        → (key_of p ≡ k) × (pick b Free (Gathering (key_of p) (sequence_of p) unit n)
+        ≡ Gathering k (sequence_of p) unit n)
     by_end true h = absurd (true≢false (sym h))
     by_end false h =
         let same = same_key_true (key_of p) k h in

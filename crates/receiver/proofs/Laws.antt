@@ -152,7 +152,8 @@ module _ (most time : ℕ) (r : Receiver) (m p : List ℕ) (n : ℕ) (e : (step_
   -- refused with anything but 20, 21, 22: the memory is unchanged, and so is the receiver, once it has aged and counted
   leaves : (20 ≤ n → n ≤ 22 → ⊥)
       → let q = aged_of most time r (length m) in
-      Unchanged (pick (ltb 2 n) (with_offered q) q) m (step_of most time r m p).receiver (step_of most time r m p).memory
+      Unchanged (pick (ltb 2 n) (with_offered q) q) m (step_of most time r m p).receiver
+      (step_of most time r m p).memory
   unfolding step_of
   leaves = refusal_leaves most time (aged_of most time r (length m)) m p n e
 

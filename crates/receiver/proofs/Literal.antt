@@ -90,7 +90,8 @@ pub record Literals : Type 0 where
       ≡ map (λ (n : ℕ). record { said = refused 2; receiver = busy; memory = replicate n 0 }) (0 ∷ 4095 ∷ 4097 ∷ [])
 
 pub literals : Literals
-unfolding step_of offered_to decided ruled on_start on_follow gathered after slot_of lowest_free first_of header_of key_of
+unfolding step_of offered_to decided ruled on_start on_follow gathered after slot_of lowest_free first_of header_of
+    key_of
     same_key right_state right_slot right_numbers multiple clash sum_of expired_to laid
 literals =
     record {

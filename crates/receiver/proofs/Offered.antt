@@ -47,7 +47,8 @@ pub offered_stays_right : (most time : ℕ) (r : Receiver) (m p : List ℕ) → 
 unfolding offered_to
 offered_stays_right most time r m p e =
     let counted = offered_right most r e in
-    every_decision most r (length m) p (λ d. right_state most (carried_out time (after_offer r d) m p d).receiver ≡ true)
+    every_decision most r (length m) p (λ d. right_state most (carried_out time (after_offer r d) m p d).receiver
+    ≡ true)
     (record {
       refuses = λ n b. pick_elim (λ (q : Receiver). right_state most q ≡ true) (ltb 2 n) (with_offered r) r
           (λ c. counted) (λ c. e);
@@ -94,7 +95,8 @@ module _ (most time : ℕ) (r : Receiver) (m p : List ℕ) (n : ℕ) (e : (offer
 
   -- refused with 20, 21, 22: the slot that has the packet's key becomes free too, memory unchanged
   pub refusal_freed : 20 ≤ n
-      → SlotFreed (key_of p) (with_offered r) m (offered_to most time r m p).receiver (offered_to most time r m p).memory
+      → SlotFreed (key_of p) (with_offered r) m (offered_to most time r m p).receiver
+      (offered_to most time r m p).memory
   unfolding offered_to
   refusal_freed twenty =
       every_decision most r (length m) p

@@ -27,7 +27,8 @@ got = reading.packet 5 12
 
 -- "1 (length outside the rule, or not that of the lent ring)": 124, 127, 129, 132 and 256 bytes lent for 128; 124, 130
 -- and 65,540 bytes lent and configured; a largest body of 63 and of 247
-pub read_lent : map (λ (n : ℕ). reading.found_of 64 (packed n) 128 true 0 12 68) (112 ∷ 115 ∷ 116 ∷ 117 ∷ 120 ∷ 244 ∷ [])
+pub read_lent : map (λ (n : ℕ). reading.found_of 64 (packed n) 128 true 0 12 68) (112 ∷ 115 ∷ 116 ∷ 117 ∷ 120 ∷ 244
+    ∷ [])
     ≡ reading.refused 1 ∷ reading.refused 1 ∷ got ∷ replicate 3 (reading.refused 1)
 unfolding reading.found_of reading.judged filled_of next_of round_from word_at
 read_lent = refl

@@ -53,7 +53,8 @@ module _ (most configured : ℕ) (ring out : List ℕ) (flags : Flags) (write : 
   one_drain readable may reads read = rw may
 
   -- all that is held is drained, where that is fewer packets than reads
-  pub all_drained : may_read (state_of flags) ≡ true → (reads read : ℕ) (packets : List (List ℕ)) → length packets < reads
+  pub all_drained : may_read (state_of flags) ≡ true → (reads read : ℕ) (packets : List (List ℕ))
+      → length packets < reads
       → Holds most configured ring read write packets
       → drained most configured ring out flags write reads read ≡ record { packets = packets; read = write }
   unfolding fronted

@@ -148,7 +148,8 @@ module _ (most configured read : ℕ) (packets : List (List ℕ)) (states : List
   -- whatever was done before: the packets whose bytes are what is filled
   pub filled_back : (ring : List ℕ) (write : ℕ) → set_up_right most configured (length ring) ≡ true
       → pointers_right configured read write ≡ true → all_sized most packets ≡ true
-      → take (filled_of configured read write) (round_from read ring) ≡ all_bytes packets → length states ≡ length packets
+      → take (filled_of configured read write) (round_from read ring) ≡ all_bytes packets
+      → length states ≡ length packets
       → read_all most configured ring out write states read ≡ packets
   filled_back ring write right pointers sized bytes many =
       let p = pointers_facts configured read write pointers in

@@ -10,7 +10,8 @@ use lib.ListN.{length, take, drop, replicate, length-append, length-drop, length
 use lib.Seq.{get_or-drop, take_at, drop_at}
 use Rattle.octets.specs.Words.{high_first, word_at, word_bytes}
 use Rattle.octets.proofs.Words.{word-length, word_same, word_back}
-use Rattle.ring.specs.Layout.{header_at, padding_field, type_field, mctp_type, whole_of, size_of, packet_of, padding_for}
+use Rattle.ring.specs.Layout.{header_at, padding_field, type_field, mctp_type, whole_of, size_of, packet_of}
+use Rattle.ring.specs.Layout.{padding_for}
 use Rattle.ring.specs.Layout.{whole_for, header_for, ring_bytes}
 use Rattle.ring.specs.Round.{round_from}
 
@@ -44,7 +45,8 @@ module _ (n : ℕ) where
 
   pub header_whole : whole_of (header_for n) ≡ whole_for n
   unfolding header_for
-  header_whole = ap (λ (k : ℕ). (k + 1) * 4) (fields (whole_for n / 4 - 1) (padding_for n) (omega arith)).0 ∙ omega arith
+  header_whole = ap (λ (k : ℕ). (k + 1) * 4) (fields (whole_for n / 4 - 1) (padding_for n) (omega arith)).0
+      ∙ omega arith
 
   pub header_size : size_of (header_for n) ≡ n
   header_size = omega (arith, header_whole, header_padding)
@@ -72,7 +74,8 @@ module _ (packet : List ℕ) where
     pub header_back : length packet ≤ 250 → header_at (ring_bytes packet ++ rest) ≡ header_for (length packet)
     header_back h =
         ap header_at bytes_split
-        ∙ word_back high_first (header_for (length packet)) (packet ++ (padding ++ rest)) (header_fits (length packet) h)
+        ∙ word_back high_first (header_for (length packet)) (packet ++ (padding ++ rest))
+        (header_fits (length packet) h)
 
     pub packet_back : length packet ≤ 250 → packet_of (ring_bytes packet ++ rest) ≡ packet
     unfolding packet_of

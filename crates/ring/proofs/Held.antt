@@ -70,7 +70,8 @@ sized_more most (q ∷ packets) p h k =
     let b = both (size_right most (length q)) (all_sized most packets) h in
     rw (b.0, sized_more most packets p b.1 k)
 
-bytes_more : (packets : List (List ℕ)) (p : List ℕ) → all_bytes (packets ++ (p ∷ [])) ≡ all_bytes packets ++ ring_bytes p
+bytes_more : (packets : List (List ℕ)) (p : List ℕ) → all_bytes (packets ++ (p ∷ []))
+    ≡ all_bytes packets ++ ring_bytes p
 unfolding all_bytes
 bytes_more [] p = append-nil (ring_bytes p)
 bytes_more (q ∷ packets) p =

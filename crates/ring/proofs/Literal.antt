@@ -107,7 +107,8 @@ three_kept =
     }
 
 pub three_queued : queued 64 128 (replicate 128 238) 100 three ≡ three_kept
-unfolding state_of write_all wrote writing.entered_of filled_of room_of next_of round_from stored fronted ring_bytes header_for
+unfolding state_of write_all wrote writing.entered_of filled_of room_of next_of round_from stored fronted ring_bytes
+    header_for
     word_bytes
 three_queued = refl
 

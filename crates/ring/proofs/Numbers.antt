@@ -69,7 +69,8 @@ module _ (length pointer n : ℕ) (p : pointer < length) (s : n ≤ length) wher
       (λ c. record { fours = ap (λ (k : ℕ). k % 4) c.0 ∙ omega arith; below = omega arith }) next_cases
 
   -- two steps are one
-  pub next_next : (m : ℕ) → n + m ≤ length → next_of length (next_of length pointer n) m ≡ next_of length pointer (n + m)
+  pub next_next : (m : ℕ) → n + m ≤ length → next_of length (next_of length pointer n) m
+      ≡ next_of length pointer (n + m)
   unfolding next_of
   next_next m h = mod-add-mod (pointer + n) length m ∙ ap (λ (k : ℕ). k % length) (add_assoc pointer n m)
 

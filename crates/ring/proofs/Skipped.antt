@@ -69,7 +69,8 @@ module _ (most : ℕ) (ring : List ℕ) (configured : ℕ) (readable : Bool) (re
   order = read_order most (length ring) configured readable read write output
 
   abbrev more : List (Check Found)
-  more = header_order most (filled_of configured read write) (header_at s) (next_of configured read (whole_of (header_at s)))
+  more = header_order most (filled_of configured read write) (header_at s)
+      (next_of configured read (whole_of (header_at s)))
 
   abbrev end : Found
   end = packet (size_of (header_at s)) (next_of configured read (whole_of (header_at s)))

@@ -21,7 +21,8 @@ use Rattle.sender.proofs.sending.to_pcc.Reads as to-pcc
 use Rattle.sender.proofs.sending.to_ring.Reads as to-ring
 
 -- Answers that say the same are the same.
-counted_injective : (a b : Counted) → number_counted a ≡ number_counted b → packets_counted a ≡ packets_counted b → a ≡ b
+counted_injective : (a b : Counted) → number_counted a ≡ number_counted b → packets_counted a ≡ packets_counted b
+    → a ≡ b
 counted_injective (counted.Packets m) (counted.Packets k) n s = ap counted.Packets s
 counted_injective (counted.Packets m) (counted.Refused why) n s = absurd (omega (arith, number_positive why))
 counted_injective (counted.Refused why) (counted.Packets k) n s = absurd (omega (arith, number_positive why))

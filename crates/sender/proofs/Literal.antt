@@ -138,7 +138,8 @@ behind = record { read = 100; write = 120 }
 
 pub in_a_ring : (ring_entered 64 alone (0 ∷ []) 0 128 128 normal_runtime behind ≡ entered 4)
     × (ring_written 64 alone (0 ∷ []) 0 (replicate 128 238) 128 normal_runtime behind ≡ written)
-unfolding ring_entered ring_written cut_refusal packet_at packet_header header_bytes flags_for state_of entered_of filled_of
+unfolding ring_entered ring_written cut_refusal packet_at packet_header header_bytes flags_for state_of entered_of
+    filled_of
     room_of next_of round_from stored fronted ring_bytes header_for word_bytes
 in_a_ring = (refl, refl)
 

@@ -1,6 +1,7 @@
 -- Ages: how they are counted, and what is left once every slot that is too old is freed.
 -- Assumes nothing.
-use Rattle.std.proofs.Common.{◌≡◌, ℕ, zero, suc, ◌+◌, ◌%◌, ◌<◌, ◌≤◌, Bool, true, false, length, get_or, sym, refl, ap, ◌∙◌, arith, lit≤, length-set, get_or-set_other, get_or-set_same}
+use Rattle.std.proofs.Common.{◌≡◌, ℕ, zero, suc, ◌+◌, ◌%◌, ◌<◌, ◌≤◌, Bool, true, false, length, get_or, sym, refl, ap}
+use Rattle.std.proofs.Common.{◌∙◌, arith, lit≤, length-set, get_or-set_other, get_or-set_same}
 use mathlib.Core.Logic.{dite}
 use native.Mathlib.Decide.{ℕ_discrete}
 use Rattle.octets.specs.Choice.{pick}
@@ -89,7 +90,8 @@ module _ (time : ℕ) (r : Receiver) where
   here : (n : ℕ) → n < 4 → n < length r.slots → then (suc n) n ≡ pick (old_at time r n) free_slot (before n)
   unfolding expired_to
   here n low h =
-      ap (λ (b : Bool). get_or (pick b (with_slot (to n) n free_slot) (to n)).slots n free_slot) (judged n (omega arith))
+      ap (λ (b : Bool). get_or (pick b (with_slot (to n) n free_slot) (to n)).slots n free_slot)
+      (judged n (omega arith))
       ∙ by_test (old_at time r n)
     where
       by_test : (b : Bool) → get_or (pick b (with_slot (to n) n free_slot) (to n)).slots n free_slot
@@ -99,7 +101,8 @@ module _ (time : ℕ) (r : Receiver) where
       by_test false = not_yet n n (omega arith)
 
   -- each slot is freed if it was too old, and else is what it was
-  expired_to_lem : (n i : ℕ) → n ≤ 4 → i < n → i < length r.slots → then n i ≡ pick (old_at time r i) free_slot (before i)
+  expired_to_lem : (n i : ℕ) → n ≤ 4 → i < n → i < length r.slots
+      → then n i ≡ pick (old_at time r i) free_slot (before i)
   expired_to_lem zero i high h low = absurd (omega arith)
   expired_to_lem (suc n) i high h low =
       dite (ℕ_discrete i n)

@@ -43,7 +43,8 @@ pub free_right : (most : ℕ) (r : Receiver) (i : ℕ) → i < 4 → right_state
     → right_state most (with_slot r i free_slot) ≡ true
 unfolding right_slot clash
 free_right most r i h e =
-    right_holds most (with_slot r i free_slot) (with_right most r (right_of most r e) i free_slot h refl (λ j hj n. refl))
+    right_holds most (with_slot r i free_slot) (with_right most r (right_of most r e) i free_slot h refl
+    (λ j hj n. refl))
 
 pub freed_right : (most : ℕ) (r : Receiver) (i : ℕ) → right_state most r ≡ true
     → right_state most (freed_of most r i) ≡ true

@@ -1,6 +1,7 @@
 -- Slots found: the first that passes a test passes it, none below does, and the slot of a key is the one that has it.
 -- Assumes nothing.
-use Rattle.std.proofs.Common.{◌≡◌, ℕ, zero, suc, ◌+◌, ◌-◌, ◌<◌, ◌≤◌, Bool, true, false, List, sym, refl, ap, ◌∙◌, true≢false, add-one, arith}
+use Rattle.std.proofs.Common.{◌≡◌, ℕ, zero, suc, ◌+◌, ◌-◌, ◌<◌, ◌≤◌, Bool, true, false, List, sym, refl, ap, ◌∙◌}
+use Rattle.std.proofs.Common.{true≢false, add-one, arith}
 use mathlib.Core.Bool.{false≢true}
 use mathlib.Core.Logic.{dite, by_cases}
 use native.Mathlib.Decide.{dec_lt, ℕ_discrete}

@@ -187,7 +187,8 @@ pub record Literals : Type 0 where
       ≡ tallied 2 128 7 5 (with_slots_lem free_slot b (since 1000 c) free_slot)
 
 pub literals : Literals
-unfolding set_up_refusal set_up_of free_refusal freed_of slot_of lowest_free first_of same_key right_state right_slot right_numbers
+unfolding set_up_refusal set_up_of free_refusal freed_of slot_of lowest_free first_of same_key right_state right_slot
+    right_numbers
     multiple clash sum_of expired_to
 literals =
     record {

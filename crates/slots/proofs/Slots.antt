@@ -1,6 +1,7 @@
 -- The four slots one by one; a slot set anew, and the others.
 -- Assumes nothing.
-use Rattle.std.proofs.Common.{◌≡◌, ℕ, zero, suc, ◌<◌, ◌≤◌, List, length, set, ap, arith, get_or-set_other, get_or-set_same}
+use Rattle.std.proofs.Common.{◌≡◌, ℕ, zero, suc, ◌<◌, ◌≤◌, List, length, set, ap, arith, get_or-set_other}
+use Rattle.std.proofs.Common.{get_or-set_same}
 use lib.ListN.{get_or-eq_default}
 use Rattle.slots.specs.declared.state.Slot.{Slot}
 use Rattle.slots.specs.declared.state.SlotState.TheVariants.{Free}

@@ -1,6 +1,7 @@
 -- A right state taken apart into facts, one for each slot and each pair, and put together from them.
 -- Assumes nothing.
-use Rattle.std.proofs.Common.{◌≡◌, ℕ, ◌+◌, ◌<◌, ◌≤◌, Bool, true, false, not, length, sym, refl, ap, ◌∙◌, subst, arith, lit<, lit≤, length-set, eq-eqb, eqb-true}
+use Rattle.std.proofs.Common.{◌≡◌, ℕ, ◌+◌, ◌<◌, ◌≤◌, Bool, true, false, not, length, sym, refl, ap, ◌∙◌, subst, arith}
+use Rattle.std.proofs.Common.{lit<, lit≤, length-set, eq-eqb, eqb-true}
 use mathlib.Core.Logic.{dite, by_cases}
 use native.Mathlib.Decide.{dec_lt, ℕ_discrete}
 use borrow.Author.Tests.{not-true}

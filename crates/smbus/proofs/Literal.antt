@@ -65,7 +65,8 @@ pub record Limits : Type 0 where
   pub packet_69 : write_refusal 64 74 69 32 17 ≡ 3
 
 pub limits : Limits
-unfolding refusal_of write_refusal end_of before_end frame_of covered_of head_of pec_of pec_from byte_step eight_steps poly_step
+unfolding refusal_of write_refusal end_of before_end frame_of covered_of head_of pec_of pec_from byte_step eight_steps
+    poly_step
 limits =
     record {
       own_127 = refl;

@@ -77,7 +77,8 @@ pub bit_of_pec_refused : (own : ℕ) → refusal_of 64 bit_of_pec own ≡ 0 → 
 bit_of_pec_refused = literal_refused OddChange odd_refused bit_of_pec tt bit_of_pec_lem
 
 -- and at the frame's own address each has the PEC's number.
-pub refused_with_8 : (refusal_of 64 one_bit 32 ≡ 8) × (refusal_of 64 three_bits 32 ≡ 8) × (refusal_of 64 bit_of_pec 32 ≡ 8)
+pub refused_with_8 : (refusal_of 64 one_bit 32 ≡ 8) × (refusal_of 64 three_bits 32 ≡ 8)
+    × (refusal_of 64 bit_of_pec 32 ≡ 8)
 unfolding refusal_of end_of before_end pec_of pec_from byte_step eight_steps poly_step
 refused_with_8 = (refl, refl, refl)
 

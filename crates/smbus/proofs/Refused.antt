@@ -41,7 +41,8 @@ pub refused_setups :
     map (λ (most : ℕ). read_as most literal_frame 32) (63 ∷ 64 ∷ 246 ∷ 247 ∷ [])
     ++ map (read_as 64 literal_frame) (128 ∷ 160 ∷ 255 ∷ [])
     ≡ none 1 ∷ whole ∷ whole ∷ none 1 ∷ replicate 3 (none 1)
-unfolding refusal_of packet_of part_of source_address_of end_of before_end pec_of pec_from byte_step eight_steps poly_step
+unfolding refusal_of packet_of part_of source_address_of end_of before_end pec_of pec_from byte_step eight_steps
+    poly_step
 refused_setups = refl
 
 -- 3: document 01's frame cut to no byte, to four, to nine, and made longer than 73
@@ -49,7 +50,8 @@ pub refused_sizes :
     map (λ (n : ℕ). read_as 64 (take n literal_frame) 32) (0 ∷ 4 ∷ 9 ∷ 10 ∷ [])
     ++ map (λ (n : ℕ). read_as 64 (literal_frame ++ replicate n 0) 32) (64 ∷ 246 ∷ [])
     ≡ none 3 ∷ none 3 ∷ none 3 ∷ whole ∷ none 3 ∷ none 3 ∷ []
-unfolding refusal_of packet_of part_of source_address_of end_of before_end pec_of pec_from byte_step eight_steps poly_step
+unfolding refusal_of packet_of part_of source_address_of end_of before_end pec_of pec_from byte_step eight_steps
+    poly_step
 refused_sizes = refl
 
 -- and for a largest body of 246: frames of 255 and of 256 bytes
@@ -60,7 +62,8 @@ refused_long = refl
 -- 4, by the first byte: bit 0 set, another address, 0
 pub refused_addresses :
     map (λ (b : ℕ). read_as 64 (set literal_frame 0 b) 32) (0x41 ∷ 0x42 ∷ 0x3E ∷ 0xC0 ∷ 0 ∷ []) ≡ replicate 5 (none 4)
-unfolding refusal_of packet_of part_of source_address_of end_of before_end pec_of pec_from byte_step eight_steps poly_step
+unfolding refusal_of packet_of part_of source_address_of end_of before_end pec_of pec_from byte_step eight_steps
+    poly_step
 refused_addresses = refl
 
 -- 5, by the second, 6, by the third, 7, by the fourth
@@ -69,7 +72,8 @@ pub refused_heads :
     ++ map (λ (b : ℕ). read_as 64 (set literal_frame 2 b) 32) (0 ∷ 5 ∷ 7 ∷ 10 ∷ 0x86 ∷ [])
     ++ map (λ (b : ℕ). read_as 64 (set literal_frame 3 b) 32) (0x22 ∷ 0x24 ∷ 0xFE ∷ [])
     ≡ replicate 4 (none 5) ++ replicate 5 (none 6) ++ replicate 3 (none 7)
-unfolding refusal_of packet_of part_of source_address_of end_of before_end pec_of pec_from byte_step eight_steps poly_step
+unfolding refusal_of packet_of part_of source_address_of end_of before_end pec_of pec_from byte_step eight_steps
+    poly_step
 refused_heads = refl
 
 -- 8: another PEC, another sender, another byte of the packet
@@ -80,7 +84,8 @@ pub refused_pecs :
     ∷ read_as 64 (set literal_frame 8 1) 32
     ∷ []
     ≡ replicate 4 (none 8)
-unfolding refusal_of packet_of part_of source_address_of end_of before_end pec_of pec_from byte_step eight_steps poly_step
+unfolding refusal_of packet_of part_of source_address_of end_of before_end pec_of pec_from byte_step eight_steps
+    poly_step
 refused_pecs = refl
 
 -- `part` alone asks no check: what stands behind the head and before the PEC of any frame, in the shortest ones nothing
@@ -116,7 +121,8 @@ pub unwritten_setups :
     ++ map (λ (to : ℕ). wrote_as 64 12 literal_packet to 17) (128 ∷ 255 ∷ [])
     ++ map (wrote_as 64 12 literal_packet 32) (128 ∷ 255 ∷ [])
     ≡ (left 1 12 ∷ sent 2 ∷ sent 2 ∷ left 1 12 ∷ []) ++ replicate 4 (left 1 12)
-unfolding write_refusal size_of written_of fronted frame_of covered_of head_of pec_of pec_from byte_step eight_steps poly_step
+unfolding write_refusal size_of written_of fronted frame_of covered_of head_of pec_of pec_from byte_step eight_steps
+    poly_step
 unwritten_setups = refl
 
 -- 3: packets of 0, 4 and 69 bytes; 2: an output of 0 and of 9 bytes, where the frame has 10
@@ -124,7 +130,8 @@ pub unwritten_sizes :
     map (λ (n : ℕ). wrote_as 64 80 (replicate n 1) 32 17) (0 ∷ 4 ∷ 69 ∷ [])
     ++ map (λ (room : ℕ). wrote_as 64 room literal_packet 32 17) (0 ∷ 9 ∷ 10 ∷ 11 ∷ [])
     ≡ replicate 3 (left 3 80) ++ (left 2 0 ∷ left 2 9 ∷ sent 0 ∷ sent 1 ∷ [])
-unfolding write_refusal size_of written_of fronted frame_of covered_of head_of pec_of pec_from byte_step eight_steps poly_step
+unfolding write_refusal size_of written_of fronted frame_of covered_of head_of pec_of pec_from byte_step eight_steps
+    poly_step
 unwritten_sizes = refl
 
 -- and for a largest body of 246: packets of 250 and 251 bytes, and an output one byte too short

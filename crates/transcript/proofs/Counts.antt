@@ -60,7 +60,8 @@ one_or_none true = omega arith
 one_or_none false = omega arith
 
 -- and of some frames
-pub run_packets_lem : (s : State) (m : List ℕ) (frames : List (List ℕ)) → s.packets + length frames ≤ 18446744073709551615
+pub run_packets_lem : (s : State) (m : List ℕ) (frames : List (List ℕ))
+    → s.packets + length frames ≤ 18446744073709551615
     → (run s m frames).state.packets ≡ s.packets + packets_in frames
 unfolding run after_frame packets_in carrier.smbus_brings
 run_packets_lem s m [] h = omega arith
@@ -72,7 +73,8 @@ run_packets_lem s m (f ∷ frames) h =
 
 -- the last line tells the whole records, and those of them that hold a packet
 pub transcript_counts : (m input : List ℕ) → arrivals_in input ≤ 18446744073709551615
-    → transcript_of m input ≡ (run_on start m input).text ++ last_line (arrivals_in input) (packets_in (records_of input))
+    → transcript_of m input ≡ (run_on start m input).text ++ last_line (arrivals_in input)
+    (packets_in (records_of input))
 unfolding transcript_of arrivals_in
 transcript_counts m input h =
     let frames = records_of input in

@@ -33,7 +33,8 @@ use Rattle.transcript.specs.Last.{transcript_of}
 -- "`40 0F 06 23 01 09 0A C8 00 71` is a good frame for address 0x20: done at EID 9, length 1"
 found : smbus_brings 64 (0x40 ∷ 0x0F ∷ 0x06 ∷ 0x23 ∷ 0x01 ∷ 0x09 ∷ 0x0A ∷ 0xC8 ∷ 0x00 ∷ 0x71 ∷ []) 0x20
     ≡ packet (0x01 ∷ 0x09 ∷ 0x0A ∷ 0xC8 ∷ 0x00 ∷ []) (Source 17)
-unfolding smbus_brings smbus.refusal_of smbus.end_of smbus.before_end smbus.part_of smbus.packet_of smbus.source_address_of
+unfolding smbus_brings smbus.refusal_of smbus.end_of smbus.before_end smbus.part_of smbus.packet_of
+    smbus.source_address_of
     pec.poly_step pec.eight_steps pec.byte_step pec.pec_from pec.pec_of
 found = refl
 

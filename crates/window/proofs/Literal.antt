@@ -258,6 +258,7 @@ pub overlapping_flags :
     map (λ (change : Change). (interface_in (stored_flags (broken 6 13) overlapping change) overlapping).flags)
     (Nothing ∷ Host SetReset ∷ [])
     ≡ flags_of true false true false ∷ flags_of true true true true ∷ []
-unfolding stored_flags changed_word word_where cleared word_of number_of interface_in allowed inside clear word_at word_bytes
+unfolding stored_flags changed_word word_where cleared word_of number_of interface_in allowed inside clear word_at
+    word_bytes
     laid
 overlapping_flags = refl

@@ -28,7 +28,8 @@ use Rattle.window.specs.declared.word.Pointer.TheVariants.{H2bWrite, B2hRead, B2
 use Rattle.descriptor.specs.Places.{end_of}
 use Rattle.descriptor.specs.Configuration.{area_place, is_ring, allowed}
 use Rattle.window.specs.Places.{place_in, area_of}
-use Rattle.window.specs.Words.{word_place, has_up, cleared, word_where, word_in, points_into, store_order, store_refusal}
+use Rattle.window.specs.Words.{word_place, has_up, cleared, word_where, word_in, points_into, store_order}
+use Rattle.window.specs.Words.{store_refusal}
 use Rattle.window.specs.Words.{with_word, stored, pointing, stored_pointer}
 use Rattle.descriptor.proofs.Configurations.{Clear, Allowed, allowed_facts}
 use Rattle.mmbi.proofs.PointerNumbers.{length_facts}

@@ -14,7 +14,16 @@ slice_bounds-send-end c =
     omega (arith, c.loop-rt.invariant.1, c.requires) in
     let one : Chunked c.loop-rt.state c.loop-rt.memory (drop c.loop-rt.read c.args.bytes.now)
     c.loop-rt.output c.chunk-taken.result c.chunk-taken.new.memory c.chunk-taken.new.output =
-    chunk c.loop-rt.invariant.0 c.loop-rt.output room (c.chunk-taken.ensures.state, (c.chunk-taken.ensures.memory, (c.chunk-taken.ensures.read, (c.chunk-taken.ensures.written, c.chunk-taken.ensures.output)))) in
+    chunk c.loop-rt.invariant.0 c.loop-rt.output room (
+      c.chunk-taken.ensures.state,
+      (
+        c.chunk-taken.ensures.memory,
+        (
+          c.chunk-taken.ensures.read,
+          (c.chunk-taken.ensures.written, c.chunk-taken.ensures.output),
+        ),
+      ),
+    ) in
     omega (arith, one.fits, c.chunk-taken.auto.output)
 
 -- the place behind the chunk lies within the bytes, whose number the machine can count
@@ -24,7 +33,16 @@ overflow_add-read c =
     omega (arith, c.loop-rt.invariant.1, c.requires) in
     let one : Chunked c.loop-rt.state c.loop-rt.memory (drop c.loop-rt.read c.args.bytes.now)
     c.loop-rt.output c.chunk-taken.result c.chunk-taken.new.memory c.chunk-taken.new.output =
-    chunk c.loop-rt.invariant.0 c.loop-rt.output room (c.chunk-taken.ensures.state, (c.chunk-taken.ensures.memory, (c.chunk-taken.ensures.read, (c.chunk-taken.ensures.written, c.chunk-taken.ensures.output)))) in
+    chunk c.loop-rt.invariant.0 c.loop-rt.output room (
+      c.chunk-taken.ensures.state,
+      (
+        c.chunk-taken.ensures.memory,
+        (
+          c.chunk-taken.ensures.read,
+          (c.chunk-taken.ensures.written, c.chunk-taken.ensures.output),
+        ),
+      ),
+    ) in
     let on : Going c.args.before c.args.memory.now c.args.bytes.now
     c.args.earlier c.chunk-taken.result.state c.chunk-taken.new.memory c.send-sent.result
     (c.loop-rt.read + c.chunk-taken.result.read) =
@@ -37,7 +55,16 @@ loop-rt-preserved c =
     omega (arith, c.loop-rt.invariant.1, c.requires) in
     let one : Chunked c.loop-rt.state c.loop-rt.memory (drop c.loop-rt.read c.args.bytes.now)
     c.loop-rt.output c.chunk-taken.result c.chunk-taken.new.memory c.chunk-taken.new.output =
-    chunk c.loop-rt.invariant.0 c.loop-rt.output room (c.chunk-taken.ensures.state, (c.chunk-taken.ensures.memory, (c.chunk-taken.ensures.read, (c.chunk-taken.ensures.written, c.chunk-taken.ensures.output)))) in
+    chunk c.loop-rt.invariant.0 c.loop-rt.output room (
+      c.chunk-taken.ensures.state,
+      (
+        c.chunk-taken.ensures.memory,
+        (
+          c.chunk-taken.ensures.read,
+          (c.chunk-taken.ensures.written, c.chunk-taken.ensures.output),
+        ),
+      ),
+    ) in
     let on : Going c.args.before c.args.memory.now c.args.bytes.now
     c.args.earlier c.chunk-taken.result.state c.chunk-taken.new.memory c.send-sent.result
     (c.loop-rt.read + c.chunk-taken.result.read) =
@@ -50,12 +77,22 @@ returns c =
     omega (arith, c.loop-rt.invariant.1, c.requires) in
     let one : Chunked c.loop-rt.state c.loop-rt.memory (drop c.loop-rt.read c.args.bytes.now)
     c.loop-rt.output c.chunk-taken.result c.chunk-taken.new.memory c.chunk-taken.new.output =
-    chunk c.loop-rt.invariant.0 c.loop-rt.output room (c.chunk-taken.ensures.state, (c.chunk-taken.ensures.memory, (c.chunk-taken.ensures.read, (c.chunk-taken.ensures.written, c.chunk-taken.ensures.output)))) in
+    chunk c.loop-rt.invariant.0 c.loop-rt.output room (
+      c.chunk-taken.ensures.state,
+      (
+        c.chunk-taken.ensures.memory,
+        (
+          c.chunk-taken.ensures.read,
+          (c.chunk-taken.ensures.written, c.chunk-taken.ensures.output),
+        ),
+      ),
+    ) in
     let on : Going c.args.before c.args.memory.now c.args.bytes.now
     c.args.earlier c.chunk-taken.result.state c.chunk-taken.new.memory c.send-sent.result
     (c.loop-rt.read + c.chunk-taken.result.read) =
     going_on c.loop-rt.invariant.0 one c.send-sent.result c.send-sent.ensures in
-    let the_parts = going_done on (chunk_last c.loop-rt.invariant.0 one c.if-more-eq0.true) in record { state = the_parts.0; memory = the_parts.1.0; read = the_parts.1.1.0; sent = the_parts.1.1.1 }
+    let the_parts = going_done on (chunk_last c.loop-rt.invariant.0 one c.if-more-eq0.true) in
+    record { state = the_parts.0; memory = the_parts.1.0; read = the_parts.1.1.0; sent = the_parts.1.1.1 }
 
 pub loop-rt-init : goal.loop-rt-init
 loop-rt-init c = (going_start _ _ _ _, refl, refl)
@@ -75,7 +112,16 @@ loop-rt-smaller c =
     omega (arith, c.loop-rt.invariant.1, c.requires) in
     let one : Chunked c.loop-rt.state c.loop-rt.memory (drop c.loop-rt.read c.args.bytes.now)
     c.loop-rt.output c.chunk-taken.result c.chunk-taken.new.memory c.chunk-taken.new.output =
-    chunk c.loop-rt.invariant.0 c.loop-rt.output room (c.chunk-taken.ensures.state, (c.chunk-taken.ensures.memory, (c.chunk-taken.ensures.read, (c.chunk-taken.ensures.written, c.chunk-taken.ensures.output)))) in
+    chunk c.loop-rt.invariant.0 c.loop-rt.output room (
+      c.chunk-taken.ensures.state,
+      (
+        c.chunk-taken.ensures.memory,
+        (
+          c.chunk-taken.ensures.read,
+          (c.chunk-taken.ensures.written, c.chunk-taken.ensures.output),
+        ),
+      ),
+    ) in
     let on : Going c.args.before c.args.memory.now c.args.bytes.now
     c.args.earlier c.chunk-taken.result.state c.chunk-taken.new.memory c.send-sent.result
     (c.loop-rt.read + c.chunk-taken.result.read) =

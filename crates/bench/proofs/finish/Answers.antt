@@ -15,5 +15,6 @@ pub returns : goal.returns
 returns c =
     let front = closing_front c.args.state c.args.output.now c.requires in record {
       output = c.last_line-end.ensures.output;
-      sent = rw (sub-zero c.last_line-end.result, c.last_line-end.ensures.place, c.last_line-end.ensures.output, front) at c.send.ensures;
+      sent = rw (sub-zero c.last_line-end.result, c.last_line-end.ensures.place, c.last_line-end.ensures.output, front)
+          at c.send.ensures;
     }

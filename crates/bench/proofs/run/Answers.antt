@@ -35,7 +35,8 @@ finish-requires c = omega (arith, c.loop-last.invariant.3, c.requires.in_bounds)
 
 pub returns : goal.returns
 returns c =
-    run_finished c.loop-last.invariant.0 c.loop-last.output (omega (arith, c.loop-last.invariant.3, c.requires.in_bounds))
+    run_finished c.loop-last.invariant.0 c.loop-last.output
+    (omega (arith, c.loop-last.invariant.3, c.requires.in_bounds))
     c.if-last.false c.loop-last-test.false (c.finish.ensures.output, c.finish.ensures.sent)
 
 pub overflow_sub-turns : goal.overflow_sub-turns

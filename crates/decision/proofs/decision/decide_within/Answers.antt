@@ -52,7 +52,8 @@ returns-in-Good c =
     (held.0, held.1.0) in
     let a = c.args in
     let checks = passed in record {
-      receiver = c.expired-aged.ensures ∙ sym (aged_expired a.most a.time a.receiver a.size a.packet.now checks.0 checks.1);
+      receiver = c.expired-aged.ensures ∙ sym (aged_expired a.most a.time a.receiver a.size a.packet.now checks.0
+          checks.1);
       plan = c.decide_packet.ensures
           ∙ ap
           (λ (q : Receiver). first_failing

@@ -12,7 +12,8 @@ use Rattle.descriptor.proofs.Readings.{refused_at, none_fails}
 use Rattle.descriptor.proofs.reading.read_descriptor.Goals as goal
 
 -- what the four calls compute is the second check
-second : (s : List ℕ) {v t a : Bool} {c : Configuration} → v ≡ version_right s → t ≡ type_right s → c ≡ configuration_in s
+second : (s : List ℕ) {v t a : Bool} {c : Configuration} → v ≡ version_right s → t ≡ type_right s
+    → c ≡ configuration_in s
     → a ≡ allowed (length s) c → (version_right s && type_right s && allowed (length s) (configuration_in s))
     ≡ (v && t && a)
 second s p q e f = rw (p, q, f, e)

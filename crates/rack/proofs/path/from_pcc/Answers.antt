@@ -10,5 +10,6 @@ returns-in_default c =
 
 pub returns : goal.returns
 returns c =
-    let packet = pcc_packet _ _ _ c.read-carried.result c.read-carried.ensures c.in-Packet.size c.in-Packet.notify c.in-Packet.is in
+    let packet = pcc_packet _ _ _ c.read-carried.result c.read-carried.ensures c.in-Packet.size c.in-Packet.notify
+    c.in-Packet.is in
     rw (packet, c.give.ensures, c.part.ensures)

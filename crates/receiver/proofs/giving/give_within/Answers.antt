@@ -7,4 +7,5 @@ use Rattle.receiver.proofs.giving.give_within.Goals as goal
 pub returns : goal.returns
 unfolding step_of offered_to
 returns c =
-    rw (sym c.decide_within-decided.ensures.plan, sym c.decide_within-decided.ensures.receiver, sym c.offered.ensures) c.carry_out.ensures
+    rw (sym c.decide_within-decided.ensures.plan, sym c.decide_within-decided.ensures.receiver, sym c.offered.ensures)
+    c.carry_out.ensures

@@ -9,7 +9,8 @@ use Rattle.records.proofs.decimal.lay_digits.Given as goal
 
 abbrev pub invariant-loop-rest : goal.invariant-loop-rest
 invariant-loop-rest l =
-    Laying l.initial.out l.at l.n l.left l.rest l.out × (l.rest ≤ l.n) × (l.left ≤ 20) × (length l.out ≡ length l.initial.out)
+    Laying l.initial.out l.at l.n l.left l.rest l.out × (l.rest ≤ l.n) × (l.left ≤ 20)
+    × (length l.out ≡ length l.initial.out)
 
 abbrev pub decreases-loop-rest : goal.decreases-loop-rest
 decreases-loop-rest l = l.rest

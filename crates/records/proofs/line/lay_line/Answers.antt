@@ -13,7 +13,8 @@ use Rattle.records.proofs.line.lay_line.Goals as goal
 pub returns-in-Done : goal.returns-in-Done
 unfolding line_bytes
 returns-in-Done c =
-    let front : Placed c.args.out.now c.args.at (decimal c.args.number) (c.args.at + c.lay_decimal.result) c.lay_decimal.new.out =
+    let front : Placed c.args.out.now c.args.at (decimal c.args.number)
+    (c.args.at + c.lay_decimal.result) c.lay_decimal.new.out =
     record { place = omega arith; stored = c.lay_decimal.ensures.output } in
     rw c.in-Done.is
     (Placed-append (decimal c.args.number)
@@ -23,7 +24,8 @@ returns-in-Done c =
 pub returns-in-Held : goal.returns-in-Held
 unfolding line_bytes
 returns-in-Held c =
-    let front : Placed c.args.out.now c.args.at (decimal c.args.number) (c.args.at + c.lay_decimal.result) c.lay_decimal.new.out =
+    let front : Placed c.args.out.now c.args.at (decimal c.args.number)
+    (c.args.at + c.lay_decimal.result) c.lay_decimal.new.out =
     record { place = omega arith; stored = c.lay_decimal.ensures.output } in
     rw c.in-Held.is
     (Placed-append (decimal c.args.number)
@@ -33,7 +35,8 @@ returns-in-Held c =
 pub returns-in-Refused : goal.returns-in-Refused
 unfolding line_bytes
 returns-in-Refused c =
-    let front : Placed c.args.out.now c.args.at (decimal c.args.number) (c.args.at + c.lay_decimal.result) c.lay_decimal.new.out =
+    let front : Placed c.args.out.now c.args.at (decimal c.args.number)
+    (c.args.at + c.lay_decimal.result) c.lay_decimal.new.out =
     record { place = omega arith; stored = c.lay_decimal.ensures.output } in
     let word = named refused_word c.in-Refused.number in
     rw c.in-Refused.is

@@ -4,4 +4,7 @@ use Rattle.ring.proofs.reading.read.Goals as goal
 
 pub returns : goal.returns
 returns c =
-    record { answer = cc (c.read_within.ensures.answer, c.may_read-readable.ensures, c.state.ensures); output = cc (c.read_within.ensures.output, c.may_read-readable.ensures, c.state.ensures) }
+    record {
+      answer = cc (c.read_within.ensures.answer, c.may_read-readable.ensures, c.state.ensures);
+      output = cc (c.read_within.ensures.output, c.may_read-readable.ensures, c.state.ensures);
+    }

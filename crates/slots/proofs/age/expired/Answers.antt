@@ -30,16 +30,19 @@ loop-slot-preserved c =
     λ b e.
     ap (λ (s : Setup). too_old s.limit a.time (slot_at c.loop-slot.next.slots c.loop-slot.slot)
     (since_at c.loop-slot.next.slots c.loop-slot.slot))
-    (ap (λ (x : Receiver). x.setup) c.loop-slot.invariant.1 ∙ expired_setup a.time a.receiver c.loop-slot.slot c.loop-slot.invariant.0)
+    (ap (λ (x : Receiver). x.setup) c.loop-slot.invariant.1
+    ∙ expired_setup a.time a.receiver c.loop-slot.slot c.loop-slot.invariant.0)
     ∙ sym c.too_old.ensures
     ∙ e in (
       omega arith,
       rw add-one
           (elim c.if-too_old.branch [
             | then-too_old w ↦ w.next-is ∙ w.with_slot-next.ensures
-                ∙ next_to a.time a.receiver c.loop-slot.next c.loop-slot.slot true c.loop-slot.invariant.1 (old true w.if-too_old.true)
+                ∙ next_to a.time a.receiver c.loop-slot.next c.loop-slot.slot true c.loop-slot.invariant.1
+                (old true w.if-too_old.true)
             | else-too_old w ↦ w.next-is
-                ∙ next_to a.time a.receiver c.loop-slot.next c.loop-slot.slot false c.loop-slot.invariant.1 (old false w.if-too_old.false)
+                ∙ next_to a.time a.receiver c.loop-slot.next c.loop-slot.slot false c.loop-slot.invariant.1
+                (old false w.if-too_old.false)
           ]),
     )
 

@@ -16,9 +16,21 @@ returns-clause-memory c = rw (← c.from_smbus-received.ensures)
 pub returns-clause-behind : goal.returns-clause-behind
 unfolding after_frame
 returns-clause-behind c =
-    rw (c.put_line-behind.ensures.place, c.line_of-line.ensures, c.one_more-arrivals.ensures, ← c.from_smbus-received.ensures)
+    rw (
+      c.put_line-behind.ensures.place,
+      c.line_of-line.ensures,
+      c.one_more-arrivals.ensures,
+      ←
+          c.from_smbus-received.ensures,
+    )
 
 pub returns-clause-output : goal.returns-clause-output
 unfolding after_frame
 returns-clause-output c =
-    rw (c.put_line-behind.ensures.output, c.line_of-line.ensures, c.one_more-arrivals.ensures, ← c.from_smbus-received.ensures)
+    rw (
+      c.put_line-behind.ensures.output,
+      c.line_of-line.ensures,
+      c.one_more-arrivals.ensures,
+      ←
+          c.from_smbus-received.ensures,
+    )

@@ -9,7 +9,8 @@ use Rattle.transcript.proofs.front.to_front.Given as goal
 
 abbrev pub invariant-loop-i : goal.invariant-loop-i
 invariant-loop-i l =
-    (l.i ≤ l.count) × (l.bytes ≡ moved_up_to l.initial.bytes l.from l.end l.i) × (length l.bytes ≡ length l.initial.bytes)
+    (l.i ≤ l.count) × (l.bytes ≡ moved_up_to l.initial.bytes l.from l.end l.i)
+    × (length l.bytes ≡ length l.initial.bytes)
 
 abbrev pub decreases-loop-i : goal.decreases-loop-i
 decreases-loop-i l = l.count - l.i

@@ -56,18 +56,39 @@ loop-output-preserved c =
     sym c.record_at-next.ensures ∙ c.in-Whole.is in
     let room : 86 ≤ length c.loop-output.output - c.loop-output.written =
     omega arith in
-    let on = along_more c.loop-output.invariant.0 whole room (c.frame_line-framed.ensures.state, (c.frame_line-framed.ensures.memory, (c.frame_line-framed.ensures.behind, c.frame_line-framed.ensures.output))) in
+    let on = along_more c.loop-output.invariant.0 whole room (
+      c.frame_line-framed.ensures.state,
+      (
+        c.frame_line-framed.ensures.memory,
+        (c.frame_line-framed.ensures.behind, c.frame_line-framed.ensures.output),
+      ),
+    ) in
     (on.1, on.0 ∙ c.loop-output.invariant.1, c.frame_line-framed.auto.memory ∙ c.loop-output.invariant.2)
 
 pub returns-after-loop-output : goal.returns-after-loop-output
 returns-after-loop-output c =
-    let the_parts = along_done c.loop-output.invariant.0 (frames_full _ _ _ _ (omega arith)) in record { state = the_parts.0; memory = the_parts.1.0; read = the_parts.1.1.0; written = the_parts.1.1.1.0; output = the_parts.1.1.1.1 }
+    let the_parts = along_done c.loop-output.invariant.0 (frames_full _ _ _ _ (omega arith)) in
+    record {
+      state = the_parts.0;
+      memory = the_parts.1.0;
+      read = the_parts.1.1.0;
+      written = the_parts.1.1.1.0;
+      output = the_parts.1.1.1.1;
+    }
 
 pub returns-in_default : goal.returns-in_default
 returns-in_default c =
     let none = no_whole c.args.input.now c.loop-output.read _ c.in_default.not-Whole
     (sym c.record_at-next.ensures) in
-    let the_parts = along_done c.loop-output.invariant.0 (rw none (frames_none c.loop-output.state c.loop-output.memory _)) in record { state = the_parts.0; memory = the_parts.1.0; read = the_parts.1.1.0; written = the_parts.1.1.1.0; output = the_parts.1.1.1.1 }
+    let the_parts = along_done c.loop-output.invariant.0
+    (rw none (frames_none c.loop-output.state c.loop-output.memory _)) in
+    record {
+      state = the_parts.0;
+      memory = the_parts.1.0;
+      read = the_parts.1.1.0;
+      written = the_parts.1.1.1.0;
+      output = the_parts.1.1.1.1;
+    }
 
 pub loop-output-init : goal.loop-output-init
 loop-output-init c = (along_start _ _ _ _, refl, refl)
