@@ -17,8 +17,10 @@ use Rattle.mctp.proofs.packet.size_right.Reads as size-right
 use Rattle.mctp.proofs.packet.key_of.Reads as key_of
 use Rattle.mctp.proofs.packet.header_of.Reads as header_of
 use Rattle.mctp.proofs.packet.header_bytes.Reads as header-bytes
-use Rattle.mctp.proofs.packet.same_key.Reads as same_key
 use Rattle.mctp.proofs.refusal.Refusal.number.Reads as number
+use Rattle.mctp.proofs.packet.KeyPartialEq.eq.Reads as key-equal
+use Rattle.mctp.specs.Key.{same_key}
+use Rattle.std.proofs.Common.{rules}
 
 pub is_null_determined : (κs : Lfts 0) (a : _) (r q : Bool) (e f : _)
     → is-null.Post κs a r e → is-null.Post κs a q f → r ≡ q
@@ -56,12 +58,14 @@ pub header_bytes_determined : (κs : Lfts 0) (a : _) (r q : List ℕ) (e f : _)
     → header-bytes.Post κs a r e → header-bytes.Post κs a q f → r ≡ q
 header_bytes_determined κs a r q e f p o = determined p o
 
-pub same_key_determined : (κs : Lfts 0) (a : _) (r q : Bool) (e f : _)
-    → same_key.Post κs a r e → same_key.Post κs a q f → r ≡ q
-same_key_determined κs a r q e f p o = determined p o
-
 pub number_determined : (κs : Lfts 0) (a : _) (r q : ℕ) (e f : _) → number.Post κs a r e → number.Post κs a q f → r ≡ q
 number_determined κs a r q e f p o = determined p o
+
+-- `==` on keys is the test on two keys, whose four parts it compares
+pub keys_equal : (κs : Lfts 2) (a : _) (r : Bool) (e : _)
+    → key-equal.Post κs a r e → r ≡ same_key a.0.now a.1.0.now
+unfolding same_key
+keys_equal κs a r e p = search rules
 
 -- No call asks anything of its arguments first.
 pub no_requires : ((κs : Lfts 0) (a : _) → is-null.Pre κs a)
@@ -73,10 +77,8 @@ pub no_requires : ((κs : Lfts 0) (a : _) → is-null.Pre κs a)
     × ((κs : Lfts 1) (a : _) → key_of.Pre κs a)
     × ((κs : Lfts 1) (a : _) → header_of.Pre κs a)
     × ((κs : Lfts 0) (a : _) → header-bytes.Pre κs a)
-    × ((κs : Lfts 0) (a : _) → same_key.Pre κs a)
     × ((κs : Lfts 0) (a : _) → number.Pre κs a)
 no_requires = (
-  (λ κs a. tt),
   (λ κs a. tt),
   (λ κs a. tt),
   (λ κs a. tt),

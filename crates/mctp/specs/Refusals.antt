@@ -1,8 +1,6 @@
 -- The refusal numbers of documents 01 and 02, one for each name.
 -- Assumes nothing.
-use Rattle.std.specs.Prelude.{ℕ}
-use Rattle.mctp.specs.declared.refusal.Outcome.{Outcome}
-use Rattle.mctp.specs.declared.refusal.Outcome.TheVariants.{Good, Refused}
+use Rattle.std.specs.Prelude.{ℕ, Result, Ok, Err}
 use Rattle.mctp.specs.declared.refusal.Refusal.{Refusal}
 use Rattle.mctp.specs.declared.refusal.Refusal.TheVariants.{Setup, Room, Size, Address, Command, Count}
 use Rattle.mctp.specs.declared.refusal.Refusal.TheVariants.{SourceBit, Pec, Signature, Descriptor, NotRunning}
@@ -37,7 +35,7 @@ number_of TooLong = 22
 -- "23 for k past the end" (document 02, #101)
 number_of PastEnd = 23
 
--- an outcome's number: 0 where good
-abbrev pub outcome_number : Outcome → ℕ
-outcome_number Good = 0
-outcome_number (Refused refusal) = number_of refusal
+-- the number of what a call comes to: 0 where good
+abbrev pub outcome_number : {T : Type 0} → Result T Refusal → ℕ
+outcome_number (Ok value) = 0
+outcome_number (Err refusal) = number_of refusal

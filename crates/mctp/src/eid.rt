@@ -2,7 +2,7 @@
 ghost use Rattle.std.specs.Prelude.{◌≡◌};
 ghost use Rattle.mctp.specs.Eid.{null_eid, broadcast_eid, reserved_eid, endpoint_eid};
 
-#[derive(Clone, Copy)]
+#[derive(Clone, Copy, PartialEq, Eq)]
 pub struct Eid(pub u8);
 
 impl Eid {
@@ -17,23 +17,19 @@ impl Eid {
     pub fn is_null(self) -> bool
         ensures { result ≡ null_eid self.0 }
     {
-        let null = Eid::NULL;
-        self.0 == null.0
+        self == Eid::NULL
     }
 
     pub fn is_broadcast(self) -> bool
         ensures { result ≡ broadcast_eid self.0 }
     {
-        let all = Eid::BROADCAST;
-        self.0 == all.0
+        self == Eid::BROADCAST
     }
 
     pub fn is_reserved(self) -> bool
         ensures { result ≡ reserved_eid self.0 }
     {
-        let first = Eid::FIRST_RESERVED;
-        let last = Eid::LAST_RESERVED;
-        (first.0 <= self.0) & (self.0 <= last.0)
+        (Eid::FIRST_RESERVED.0..=Eid::LAST_RESERVED.0).contains(&self.0)
     }
 
     // What one endpoint goes by: an own EID, or a source that may send.

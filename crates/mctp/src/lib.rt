@@ -7,6 +7,6 @@ mod refusal;
 
 pub use eid::Eid;
 pub use packet::{
-    Header, Key, LARGEST_BODY, body_right, header_bytes, header_of, key_of, same_key, size_right,
+    Header, Key, LARGEST_BODY, body_right, header_bytes, header_of, key_of, size_right,
 };
-pub use refusal::{Outcome, Refusal};
+pub use refusal::Refusal;

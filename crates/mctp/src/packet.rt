@@ -1,6 +1,6 @@
 // A packet's size, its header, and the key under which its message is gathered.
-ghost use Rattle.std.specs.Prelude.{◌≡◌, ◌≤◌};
-ghost use Rattle.mctp.specs.Key.{key_of, header_of, bit, header_bytes, same_key};
+ghost use Rattle.std.specs.Prelude.{◌≡◌};
+ghost use Rattle.mctp.specs.Key.{key_of, header_of, header_bytes};
 ghost use Rattle.mctp.specs.Packet.{body_right, size_right};
 
 use crate::eid::Eid;
@@ -12,21 +12,18 @@ pub const LARGEST_BODY: usize = 64;
 pub fn body_right(most: usize) -> bool
     ensures { result ≡ body_right most }
 {
-    (64 <= most) & (most <= 246)
+    (LARGEST_BODY..=246).contains(&most)
 }
 
 // Whether a packet has as many bytes as a carrier takes: "5 to 68 in all", where 68 is 4 + `most`.
 pub fn size_right(most: usize, size: usize) -> bool
     ensures { result ≡ size_right most size }
 {
-    if size < 5 {
-        return false;
-    }
-    size - 4 <= most
+    (1..=most).contains(&size.saturating_sub(4))
 }
 
 // "a key (destination, source, tag owner, tag)"
-#[derive(Clone, Copy)]
+#[derive(Clone, Copy, PartialEq, Eq)]
 pub struct Key {
     pub destination: Eid,
     pub source: Eid,
@@ -35,7 +32,7 @@ pub struct Key {
 }
 
 // The fields of a packet's four header bytes.
-#[derive(Clone, Copy)]
+#[derive(Clone, Copy, PartialEq, Eq)]
 pub struct Header {
     pub version: u8,
     pub start: bool,
@@ -45,6 +42,7 @@ pub struct Header {
 }
 
 // The key of a packet; of a list that is too short, the key of the bytes there are, with 0 for the others.
+#[tactic(auto, unfolding(crate::specs::Key::key_of))]
 pub fn key_of(packet: &[u8]) -> Key
     ensures { result ≡ key_of packet.now }
 {
@@ -58,6 +56,7 @@ pub fn key_of(packet: &[u8]) -> Key
 }
 
 // The whole header, read once.
+#[tactic(auto, unfolding(crate::specs::Key::header_of))]
 pub fn header_of(packet: &[u8]) -> Header
     ensures { result ≡ header_of packet.now }
 {
@@ -72,13 +71,14 @@ pub fn header_of(packet: &[u8]) -> Header
 }
 
 // The four bytes of a header; of a number that is too large for its field, the low bits.
+#[tactic(auto, unfolding(crate::specs::Key::header_bytes, crate::specs::Key::flags_for))]
 pub fn header_bytes(header: Header) -> [u8; 4]
     ensures { result ≡ header_bytes header }
 {
-    let flags = bit(header.start) * 128
-        + bit(header.end) * 64
+    let flags = u8::from(header.start) * 128
+        + u8::from(header.end) * 64
         + header.sequence % 4 * 16
-        + bit(header.key.owner) * 8
+        + u8::from(header.key.owner) * 8
         + header.key.tag % 8;
     [
         header.version % 16,
@@ -86,20 +86,4 @@ pub fn header_bytes(header: Header) -> [u8; 4]
         header.key.source.0,
         flags,
     ]
-}
-
-fn bit(b: bool) -> u8
-    ensures { (result ≡ bit b) × (result ≤ 1) }
-{
-    if b { 1 } else { 0 }
-}
-
-// Whether two keys are one: all four fields are.
-pub fn same_key(a: Key, b: Key) -> bool
-    ensures { result ≡ same_key a b }
-{
-    (a.destination.0 == b.destination.0)
-        & (a.source.0 == b.source.0)
-        & (a.owner == b.owner)
-        & (a.tag == b.tag)
 }

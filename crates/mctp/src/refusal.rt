@@ -2,68 +2,37 @@
 ghost use Rattle.std.specs.Prelude.{◌≡◌};
 ghost use Rattle.mctp.specs.Refusals.{number_of};
 
-#[derive(Clone, Copy)]
+#[derive(Clone, Copy, PartialEq, Eq)]
 pub enum Refusal {
-    Setup,
-    Room,
-    Size,
-    Address,
-    Command,
-    Count,
-    SourceBit,
-    Pec,
-    Signature,
-    Descriptor,
-    NotRunning,
-    Pointer,
-    BadPacket,
-    OtherKind,
-    Version,
-    NotOurs,
-    Source,
-    NoSlot,
-    NoStart,
-    Sequence,
-    Unit,
-    TooLong,
-    PastEnd,
-}
-
-// What a check gives: good, or the refusal.
-#[derive(Clone, Copy)]
-pub enum Outcome {
-    Good,
-    Refused(Refusal),
+    Setup = 1,
+    Room = 2,
+    Size = 3,
+    Address = 4,
+    Command = 5,
+    Count = 6,
+    SourceBit = 7,
+    Pec = 8,
+    Signature = 9,
+    Descriptor = 10,
+    NotRunning = 11,
+    Pointer = 12,
+    BadPacket = 13,
+    OtherKind = 14,
+    Version = 15,
+    NotOurs = 16,
+    Source = 17,
+    NoSlot = 18,
+    NoStart = 19,
+    Sequence = 20,
+    Unit = 21,
+    TooLong = 22,
+    PastEnd = 23,
 }
 
 impl Refusal {
     pub fn number(self) -> u8
         ensures { result ≡ number_of self }
     {
-        match self {
-            Refusal::Setup => 1,
-            Refusal::Room => 2,
-            Refusal::Size => 3,
-            Refusal::Address => 4,
-            Refusal::Command => 5,
-            Refusal::Count => 6,
-            Refusal::SourceBit => 7,
-            Refusal::Pec => 8,
-            Refusal::Signature => 9,
-            Refusal::Descriptor => 10,
-            Refusal::NotRunning => 11,
-            Refusal::Pointer => 12,
-            Refusal::BadPacket => 13,
-            Refusal::OtherKind => 14,
-            Refusal::Version => 15,
-            Refusal::NotOurs => 16,
-            Refusal::Source => 17,
-            Refusal::NoSlot => 18,
-            Refusal::NoStart => 19,
-            Refusal::Sequence => 20,
-            Refusal::Unit => 21,
-            Refusal::TooLong => 22,
-            Refusal::PastEnd => 23,
-        }
+        self as u8
     }
 }
