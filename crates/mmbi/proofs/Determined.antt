@@ -8,25 +8,31 @@ use Rattle.octets.proofs.Choice.{determined}
 use Rattle.mmbi.specs.declared.interface.Flags.{Flags}
 use Rattle.mmbi.specs.declared.interface.InterfaceState.{InterfaceState}
 use Rattle.mmbi.specs.declared.word.Word.{Word}
+use Rattle.mmbi.specs.Interface.{same_flags}
 use Rattle.mmbi.proofs.change.changed_flags.Reads as changed-flags
 use Rattle.mmbi.proofs.change.changed_word.Reads as changed-word
-use Rattle.mmbi.proofs.interface.same_flags.Reads as same_flags
+use Rattle.mmbi.proofs.interface.FlagsPartialEq.eq.Reads as equal
 use Rattle.mmbi.proofs.interface.state.Reads as state
 use Rattle.mmbi.proofs.interface.transient.Reads as transient
 use Rattle.mmbi.proofs.interface.may_read.Reads as may_read_lem
 use Rattle.mmbi.proofs.interface.may_write.Reads as may_write_lem
 use Rattle.mmbi.proofs.pointer.length_right.Reads as length-right
 use Rattle.mmbi.proofs.pointer.pointer_right.Reads as pointer-right
-use Rattle.mmbi.proofs.word.Word.of_number.Reads as of_number
-use Rattle.mmbi.proofs.word.Word.number.Reads as number
+use Rattle.mmbi.proofs.word.WordFromU32.from.Reads as of_number
+use Rattle.mmbi.proofs.word.U32FromWord.from.Reads as number
 
 pub state_determined : (κs : Lfts 0) (a : _) (r q : InterfaceState) (e f : _)
     → state.Post κs a r e → state.Post κs a q f → r ≡ q
 state_determined κs a r q e f p o = determined p o
 
-pub same_flags_determined : (κs : Lfts 0) (a : _) (r q : Bool) (e f : _)
-    → same_flags.Post κs a r e → same_flags.Post κs a q f → r ≡ q
-same_flags_determined κs a r q e f p o = determined p o
+-- the `==` of flags answers what the definition does
+pub equal_says : (κs : Lfts 2) (a : _) (r : Bool) (e : _) → equal.Post κs a r e
+    → r ≡ same_flags a.0.now a.1.0.now
+equal_says κs a r e p = p
+
+pub equal_determined : (κs : Lfts 2) (a : _) (r q : Bool) (e f : _)
+    → equal.Post κs a r e → equal.Post κs a q f → r ≡ q
+equal_determined κs a r q e f p o = determined p o
 
 pub changed_flags_determined : (κs : Lfts 0) (a : _) (r q : Flags) (e f : _)
     → changed-flags.Post κs a r e → changed-flags.Post κs a q f → r ≡ q
@@ -65,7 +71,7 @@ pointer_right_determined κs a r q e f p o = determined p o
 
 -- No call asks anything of its arguments first.
 pub no_requires : ((κs : Lfts 0) (a : _) → state.Pre κs a)
-    × ((κs : Lfts 0) (a : _) → same_flags.Pre κs a)
+    × ((κs : Lfts 2) (a : _) → equal.Pre κs a)
     × ((κs : Lfts 0) (a : _) → changed-flags.Pre κs a)
     × ((κs : Lfts 0) (a : _) → changed-word.Pre κs a)
     × ((κs : Lfts 0) (a : _) → transient.Pre κs a)

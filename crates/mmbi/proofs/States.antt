@@ -41,7 +41,7 @@ sixteen =
     ∷ flags_of true true true true
     ∷ []
 
--- Table 5 by the controller's flags and then the host's, as the code has it
+-- Table 5 by the controller's flags and then the host's
 abbrev by_ends : Bool → Bool → Bool → Bool → InterfaceState
 by_ends bUp bRst hUp hRst =
     pick bUp
@@ -61,7 +61,7 @@ place_of bUp bRst hUp hRst = pick bUp 8 0 + pick bRst 4 0 + pick hUp 2 0 + pick 
 abbrev pub digits : Flags → ℕ
 digits f = place_of f.controller_up f.controller_reset f.host_up f.host_reset
 
--- the code's table has the row of Table 5, and the sixteen flag states leave none out: each stands at its place
+-- that table has the rows of Table 5, and the sixteen flag states leave none out: each stands at its place
 pub each_row : (bUp bRst hUp hRst : Bool)
     → (by_ends bUp bRst hUp hRst ≡ row bUp bRst hUp hRst)
     × (get_or sixteen (place_of bUp bRst hUp hRst) normal_runtime ≡ flags_of bUp bRst hUp hRst)
@@ -186,13 +186,10 @@ same_flags_refl = every_flags_lem (λ f. same_flags f f) refl
 
 pub same_flags_true : (f g : Flags) → same_flags f g ≡ true → f ≡ g
 same_flags_true f g e =
-    let up = beq f.controller_up g.controller_up in
-    let reset = beq f.controller_reset g.controller_reset in
-    let hostUp = beq f.host_up g.host_up in
-    let last = both (up && reset && hostUp) (beq f.host_reset g.host_reset) e in
-    let third = both (up && reset) hostUp last.0 in
-    let first = both up reset third.0 in
-    λ i. flags_of (beq_true f.controller_up g.controller_up first.0 i)
-    (beq_true f.controller_reset g.controller_reset first.1 i)
-    (beq_true f.host_up g.host_up third.1 i)
-    (beq_true f.host_reset g.host_reset last.1 i)
+    let up = both (beq f.controller_up g.controller_up) _ e in
+    let reset = both (beq f.controller_reset g.controller_reset) _ up.1 in
+    let hostUp = both (beq f.host_up g.host_up) _ reset.1 in
+    λ i. flags_of (beq_true f.controller_up g.controller_up up.0 i)
+    (beq_true f.controller_reset g.controller_reset reset.0 i)
+    (beq_true f.host_up g.host_up hostUp.0 i)
+    (beq_true f.host_reset g.host_reset hostUp.1 i)

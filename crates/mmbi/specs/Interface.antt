@@ -64,11 +64,12 @@ host_cleared = flags_of false true false false
 abbrev pub all_clear : Flags
 all_clear = flags_of false false false false
 
--- the same flags, all four
+-- the same flags, all four, as `==` compares them
 abbrev pub same_flags : Flags → Flags → Bool
 same_flags f g =
-    beq f.controller_up g.controller_up && beq f.controller_reset g.controller_reset
-    && beq f.host_up g.host_up && beq f.host_reset g.host_reset
+    beq f.controller_up g.controller_up
+    && (beq f.controller_reset g.controller_reset
+    && (beq f.host_up g.host_up && beq f.host_reset g.host_reset))
 
 -- "State from the four flags (B_UP, B_RST, H_UP, H_RST)"
 unfoldable pub state_of : Flags → InterfaceState

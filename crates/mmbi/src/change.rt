@@ -6,7 +6,7 @@ use crate::interface::Flags;
 use crate::word::Word;
 
 // What is done to the two flags of one end, UP and RST.
-#[derive(Clone, Copy)]
+#[derive(Clone, Copy, PartialEq, Eq)]
 pub enum Act {
     SetUp,
     ClearUp,
@@ -16,7 +16,7 @@ pub enum Act {
 }
 
 // Which end's flags are changed, and how. Both of an end's flags stand in one word, so a change is one store at most.
-#[derive(Clone, Copy)]
+#[derive(Clone, Copy, PartialEq, Eq)]
 pub enum Change {
     Nothing,
     Host(Act),
@@ -30,28 +30,27 @@ pub fn changed_flags(flags: Flags, change: Change) -> Flags
     match change {
         Change::Nothing => flags,
         Change::Host(act) => Flags {
-            controller_up: flags.controller_up,
-            controller_reset: flags.controller_reset,
             host_up: up_after(act, flags.host_up),
             host_reset: reset_after(act, flags.host_reset),
+            ..flags
         },
         Change::Controller(act) => Flags {
             controller_up: up_after(act, flags.controller_up),
             controller_reset: reset_after(act, flags.controller_reset),
-            host_up: flags.host_up,
-            host_reset: flags.host_reset,
+            ..flags
         },
     }
 }
 
 // A word beside whose pointer an end's flags stand, once they are changed; the pointer is as it was.
+#[tactic(auto, unfolding(crate::specs::Changes::changed_word))]
 pub fn changed_word(word: Word, act: Act) -> Word
     ensures { result ≡ changed_word act word }
 {
     Word {
-        pointer: word.pointer,
         bit1: up_after(act, word.bit1),
         bit0: reset_after(act, word.bit0),
+        ..word
     }
 }
 
@@ -60,10 +59,8 @@ fn up_after(act: Act, up: bool) -> bool
 {
     match act {
         Act::SetUp => true,
-        Act::ClearUp => false,
-        Act::SetReset => up,
-        Act::ClearReset => up,
-        Act::ClearBoth => false,
+        Act::ClearUp | Act::ClearBoth => false,
+        Act::SetReset | Act::ClearReset => up,
     }
 }
 
@@ -71,8 +68,7 @@ fn reset_after(act: Act, reset: bool) -> bool
     ensures { result ≡ reset_after act reset }
 {
     match act {
-        Act::SetUp => reset,
-        Act::ClearUp => reset,
+        Act::SetUp | Act::ClearUp => reset,
         Act::SetReset => true,
         Act::ClearReset => false,
         Act::ClearBoth => false, // "clears the H_UP and H_RST flags"

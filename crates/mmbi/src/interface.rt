@@ -1,10 +1,9 @@
 // The state of the interface, from the four flags of both ends (Table 5 of 003).
 ghost use Rattle.std.specs.Prelude.{◌≡◌};
-ghost use Rattle.octets.specs.Choice.{pick};
-ghost use Rattle.mmbi.specs.Interface.{same_flags, state_of, is_transient, may_read, may_write};
+ghost use Rattle.mmbi.specs.Interface.{state_of, is_transient, may_read, may_write};
 
 // B_UP, B_RST, H_UP and H_RST.
-#[derive(Clone, Copy)]
+#[derive(Clone, Copy, PartialEq, Eq)]
 pub struct Flags {
     pub controller_up: bool,
     pub controller_reset: bool,
@@ -72,7 +71,7 @@ impl Flags {
 }
 
 // The names of Table 5.
-#[derive(Clone, Copy)]
+#[derive(Clone, Copy, PartialEq, Eq)]
 pub enum InterfaceState {
     InitializationInProgress,
     InitializationCompleted,
@@ -86,129 +85,62 @@ pub enum InterfaceState {
     Unexpected,
 }
 
-// All sixteen rows of Table 5, by the controller's flags and then the host's: 00, 01, 10, 11.
+// All sixteen rows of Table 5, in its order.
+#[tactic(auto, unfolding(crate::specs::Interface::state_of))]
 pub fn state(flags: Flags) -> InterfaceState
     ensures { result ≡ state_of flags }
 {
-    let up = flags.host_up;
-    let reset = flags.host_reset;
-    by_two(
+    match (
         flags.controller_up,
         flags.controller_reset,
-        by_two(
-            up,
-            reset,
-            InterfaceState::InitializationInProgress,
+        flags.host_up,
+        flags.host_reset,
+    ) {
+        (false, false, false, false) => InterfaceState::InitializationInProgress,
+        (true, false, false, false) => InterfaceState::InitializationCompleted,
+        (true, false, true, false) => InterfaceState::NormalRuntime,
+        (true, true, true, false) => InterfaceState::ResetRequestByController,
+        (true, false, true, true) => InterfaceState::ResetRequestByHost,
+        (true, true, true, true) => InterfaceState::ResetAcked,
+        (false, true, true, true) => InterfaceState::TransitioningToInitialization,
+        (false, true, true, false) | (false, true, false, _) | (false, false, false, true) =>
             InterfaceState::TemporaryTransition,
-            InterfaceState::Unexpected,
-            InterfaceState::Unexpected,
-        ),
-        by_two(
-            up,
-            reset,
-            InterfaceState::TemporaryTransition,
-            InterfaceState::TemporaryTransition,
-            InterfaceState::TemporaryTransition,
-            InterfaceState::TransitioningToInitialization,
-        ),
-        by_two(
-            up,
-            reset,
-            InterfaceState::InitializationCompleted,
-            InterfaceState::InitializationMismatch,
-            InterfaceState::NormalRuntime,
-            InterfaceState::ResetRequestByHost,
-        ),
-        by_two(
-            up,
-            reset,
-            InterfaceState::Unexpected,
-            InterfaceState::Unexpected,
-            InterfaceState::ResetRequestByController,
-            InterfaceState::ResetAcked,
-        ),
-    )
-}
-
-// Whether these are the same flags, all four.
-pub fn same_flags(a: Flags, b: Flags) -> bool
-    ensures { result ≡ same_flags a b }
-{
-    (a.controller_up == b.controller_up)
-        & (a.controller_reset == b.controller_reset)
-        & (a.host_up == b.host_up)
-        & (a.host_reset == b.host_reset)
+        (true, false, false, true) => InterfaceState::InitializationMismatch,
+        (true, true, false, _) | (false, false, true, _) => InterfaceState::Unexpected,
+    }
 }
 
 // What document 01 calls transient: every state that it gives no name of its own.
 pub fn transient(s: InterfaceState) -> bool
     ensures { result ≡ is_transient s }
 {
-    match s {
-        InterfaceState::InitializationInProgress => true,
-        InterfaceState::InitializationCompleted => false,
-        InterfaceState::NormalRuntime => false,
-        InterfaceState::ResetRequestByController => false,
-        InterfaceState::ResetRequestByHost => false,
-        InterfaceState::ResetAcked => false,
-        InterfaceState::TransitioningToInitialization => true,
-        InterfaceState::TemporaryTransition => true,
-        InterfaceState::InitializationMismatch => true,
-        InterfaceState::Unexpected => true,
-    }
+    matches!(
+        s,
+        InterfaceState::InitializationInProgress
+            | InterfaceState::TransitioningToInitialization
+            | InterfaceState::TemporaryTransition
+            | InterfaceState::InitializationMismatch
+            | InterfaceState::Unexpected
+    )
 }
 
 // Whether a ring may be read: in normal runtime, and while one end alone asks for a reset, so that what was queued
-// isn't dropped.
+// isn't dropped. A reset that is acknowledged is no longer a "reset-asked" state.
 pub fn may_read(s: InterfaceState) -> bool
     ensures { result ≡ may_read s }
 {
-    match s {
-        InterfaceState::InitializationInProgress => false,
-        InterfaceState::InitializationCompleted => false,
-        InterfaceState::NormalRuntime => true,
-        InterfaceState::ResetRequestByController => true,
-        InterfaceState::ResetRequestByHost => true,
-        InterfaceState::ResetAcked => false, // no longer a "reset-asked" state
-        InterfaceState::TransitioningToInitialization => false,
-        InterfaceState::TemporaryTransition => false,
-        InterfaceState::InitializationMismatch => false,
-        InterfaceState::Unexpected => false,
-    }
+    matches!(
+        s,
+        InterfaceState::NormalRuntime
+            | InterfaceState::ResetRequestByController
+            | InterfaceState::ResetRequestByHost
+    )
 }
 
-// Whether a ring may be written: in normal runtime alone.
+// Whether a ring may be written: in normal runtime alone. Once the host asks, "Host not allowed to write to any MMBI
+// structures".
 pub fn may_write(s: InterfaceState) -> bool
     ensures { result ≡ may_write s }
 {
-    match s {
-        InterfaceState::InitializationInProgress => false,
-        InterfaceState::InitializationCompleted => false,
-        InterfaceState::NormalRuntime => true,
-        InterfaceState::ResetRequestByController => false,
-        InterfaceState::ResetRequestByHost => false, // "Host not allowed to write to any MMBI structures"
-        InterfaceState::ResetAcked => false,
-        InterfaceState::TransitioningToInitialization => false,
-        InterfaceState::TemporaryTransition => false,
-        InterfaceState::InitializationMismatch => false,
-        InterfaceState::Unexpected => false,
-    }
-}
-
-// One of four states, by one end's two flags.
-fn by_two(
-    up: bool,
-    reset: bool,
-    neither: InterfaceState,
-    asks: InterfaceState,
-    runs: InterfaceState,
-    both: InterfaceState,
-) -> InterfaceState
-    ensures { result ≡ pick up (pick reset both runs) (pick reset asks neither) }
-{
-    if up {
-        if reset { both } else { runs }
-    } else {
-        if reset { asks } else { neither }
-    }
+    matches!(s, InterfaceState::NormalRuntime)
 }

@@ -8,6 +8,6 @@ mod pointer;
 mod word;
 
 pub use change::{Act, Change, changed_flags, changed_word};
-pub use interface::{Flags, InterfaceState, may_read, may_write, same_flags, state, transient};
+pub use interface::{Flags, InterfaceState, may_read, may_write, state, transient};
 pub use pointer::{Pointers, length_right, pointer_right};
 pub use word::Word;

@@ -3,7 +3,7 @@ ghost use Rattle.std.specs.Prelude.{◌≡◌};
 ghost use Rattle.mmbi.specs.Pointers.{length_right, pointer_right};
 
 // A ring's pointers, in bytes from its front.
-#[derive(Clone, Copy)]
+#[derive(Clone, Copy, PartialEq, Eq)]
 pub struct Pointers {
     pub read: usize,
     pub write: usize,
@@ -13,12 +13,12 @@ pub struct Pointers {
 pub fn length_right(length: usize) -> bool
     ensures { result ≡ length_right length }
 {
-    (128 <= length) & (length <= 65536) & (length % 4 == 0)
+    (128..=65536).contains(&length) && length.is_multiple_of(4)
 }
 
 // Whether a number can be a pointer into a ring of this length: what 12 asks.
 pub fn pointer_right(length: usize, pointer: usize) -> bool
     ensures { result ≡ pointer_right length pointer }
 {
-    (pointer % 4 == 0) & (pointer < length)
+    pointer.is_multiple_of(4) && pointer < length
 }

@@ -5,12 +5,11 @@ use mathlib.Core.List.{◌++◌}
 use native.Mathlib.Omega.{arith}
 use contract.Lifetimes.{Lfts}
 use lib.ListN.{length}
+use Rattle.std.proofs.Common.{Result, Ok, Err}
+use Rattle.mctp.specs.declared.refusal.Refusal.{Refusal}
 use Rattle.octets.proofs.Choice.{determined}
 use Rattle.mctp.proofs.Refusals.{number_injective, number_positive}
-use Rattle.pcc.specs.declared.answer.Carried.{Carried}
-use Rattle.pcc.specs.declared.answer.Carried.TheVariants as carried
-use Rattle.pcc.specs.declared.answer.Written.{Written}
-use Rattle.pcc.specs.declared.answer.Written.TheVariants as written
+use Rattle.pcc.specs.declared.answer.Packet.{Packet}
 use Rattle.pcc.specs.Writing.{write_refusal, written_of}
 use Rattle.pcc.specs.Answers.{number_read, size_read, notify_read, number_written}
 use Rattle.pcc.proofs.reading.read.Reads as carrying
@@ -22,19 +21,19 @@ use Rattle.pcc.proofs.writing.write.Reads as writing
 use Rattle.pcc.proofs.writing.write_apart.Reads as apart
 
 -- the number, the size and the flag are the whole answer
-read_injective : (c d : Carried) → number_read c ≡ number_read d → size_read c ≡ size_read d
-    → notify_read c ≡ notify_read d
-    → c ≡ d
-read_injective (carried.Packet size notify) (carried.Packet size' notify') e s n = λ i. carried.Packet (s i) (n i)
-read_injective (carried.Packet size notify) (carried.Refused why) e s n = absurd (omega (arith, number_positive why))
-read_injective (carried.Refused why) (carried.Packet size notify) e s n = absurd (omega (arith, number_positive why))
-read_injective (carried.Refused why) (carried.Refused why') e s n = ap carried.Refused (number_injective why why' e)
+read_injective : (a b : Result Packet Refusal) → number_read a ≡ number_read b → size_read a ≡ size_read b
+    → notify_read a ≡ notify_read b
+    → a ≡ b
+read_injective (Ok x) (Ok y) e s n = λ i. Ok (record { size = s i; notify = n i })
+read_injective (Ok x) (Err why) e s n = absurd (omega (arith, number_positive why))
+read_injective (Err why) (Ok y) e s n = absurd (omega (arith, number_positive why))
+read_injective (Err why) (Err other) e s n = ap Err (number_injective why other e)
 
-pub written_injective : (v w : Written) → number_written v ≡ number_written w → v ≡ w
-written_injective written.Whole written.Whole e = refl
-written_injective written.Whole (written.Refused why) e = absurd (omega (arith, number_positive why))
-written_injective (written.Refused why) written.Whole e = absurd (omega (arith, number_positive why))
-written_injective (written.Refused why) (written.Refused why') e = ap written.Refused (number_injective why why' e)
+pub written_injective : (a b : Result Unit Refusal) → number_written a ≡ number_written b → a ≡ b
+written_injective (Ok x) (Ok y) e = refl
+written_injective (Ok x) (Err why) e = absurd (omega (arith, number_positive why))
+written_injective (Err why) (Ok y) e = absurd (omega (arith, number_positive why))
+written_injective (Err why) (Err other) e = ap Err (number_injective why other e)
 
 pub read_determined : (κs : Lfts 1) (a r q e f : _) → carrying.Post κs a r e → carrying.Post κs a q f → r ≡ q
 read_determined κs a r q e f p o =

@@ -9,8 +9,7 @@ use lib.ListN.{length, take, set, replicate}
 use Rattle.octets.specs.Bytes.{laid, fronted}
 use Rattle.octets.specs.Words.{word_at, word_bytes}
 use Rattle.mctp.specs.declared.refusal.Refusal.TheVariants.{Room, Command}
-use Rattle.pcc.specs.declared.answer.Carried.TheVariants as carried
-use Rattle.pcc.specs.declared.answer.Written.TheVariants as written
+use Rattle.std.proofs.Common.{Ok, Err}
 use Rattle.pcc.specs.Answers.{number_read, size_read, notify_read, number_written}
 use Rattle.pcc.specs.Layout.{region_of}
 use Rattle.pcc.specs.Reading.{refusal_of, size_of, part_of, packet_of, notify_of}
@@ -143,14 +142,16 @@ unwritten_long = refl
 
 -- the calls' answers in document 01's numbers: no value is another one's
 pub answers_read :
-    map number_read (carried.Packet 5 true ∷ carried.Refused Command ∷ [])
-    ++ map size_read (carried.Packet 5 true ∷ carried.Refused Command ∷ [])
+    map number_read (Ok (record { size = 5; notify = true }) ∷ Err Command ∷ [])
+    ++ map size_read (Ok (record { size = 5; notify = true }) ∷ Err Command ∷ [])
     ≡ 0 ∷ 5 ∷ 5 ∷ 0 ∷ []
 answers_read = refl
 
-pub answers_notify : map notify_read (carried.Packet 5 true ∷ carried.Packet 5 false ∷ carried.Refused Command ∷ [])
+pub answers_notify :
+    map notify_read
+    (Ok (record { size = 5; notify = true }) ∷ Ok (record { size = 5; notify = false }) ∷ Err Command ∷ [])
     ≡ true ∷ false ∷ false ∷ []
 answers_notify = refl
 
-pub answers_written : map number_written (written.Whole ∷ written.Refused Room ∷ []) ≡ 0 ∷ 2 ∷ []
+pub answers_written : map number_written (Ok tt ∷ Err Room ∷ []) ≡ 0 ∷ 2 ∷ []
 answers_written = refl

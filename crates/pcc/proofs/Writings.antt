@@ -2,7 +2,8 @@
 -- words laid one after the other.
 -- Assumes nothing.
 use mathlib.Core.Path.{◌≡◌, refl, sym, ◌∙◌}
-use mathlib.Core.Bool.{Bool}
+use mathlib.Core.Bool.{Bool, true, false}
+use Rattle.std.specs.Int.{from_bool}
 use mathlib.Core.List.{List, ◌++◌}
 use Prim.Native.Nat.{ℕ, ◌+◌, ◌≤◌}
 use native.Mathlib.Omega.{arith}
@@ -41,11 +42,16 @@ module _ (most room id size : ℕ) where
   good e =
       let hold = all_hold (λ n. eqb n 0) (write_order most room id size) 0 refl (eq-eqb _ 0 e) in omega (arith, tests)
 
+-- a flag as a word
+flag_word : (notify : Bool) → from_bool notify ≡ flags_of notify
+flag_word true = refl
+flag_word false = refl
+
 -- the words and the two pieces of the packet, laid one after the other, make the front
 pub filled : (region header body : List ℕ) (id : ℕ) (notify : Bool)
     → 16 + (length header + length body) ≤ length region
     → let one = laid region 0 (word_bytes low_first (signature_of id)) in
-    let two = laid one 4 (word_bytes low_first (flags_of notify)) in
+    let two = laid one 4 (word_bytes low_first (from_bool notify)) in
     let three = laid two 8 (word_bytes low_first (length_of (length header + length body))) in
     let four = laid three 12 (word_bytes low_first command) in
     laid (laid four 16 header) (16 + length header) body ≡ fronted region (region_of id notify (header ++ body))
@@ -53,7 +59,7 @@ unfolding region_of word_bytes
 filled region header body id notify h =
     let packet = header ++ body in
     let size : length packet ≡ length header + length body = length-append header body in
-    rw (sym size)
+    rw (flag_word notify, sym size)
     (sym
     (laid-append region 0 (word_bytes low_first (signature_of id)) _
     ∙ laid-append _ 4 (word_bytes low_first (flags_of notify)) _

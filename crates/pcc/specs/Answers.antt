@@ -1,28 +1,24 @@
 -- What the answers say: document 01's number and the values of each case.
 -- Assumes nothing.
-use Rattle.std.specs.Prelude.{Bool, false, ℕ}
-use Rattle.mctp.specs.Refusals.{number_of}
-use Rattle.pcc.specs.declared.answer.Carried.{Carried}
-use Rattle.pcc.specs.declared.answer.Carried.TheVariants.{Packet, Refused}
-use Rattle.pcc.specs.declared.answer.Written.{Written}
-use Rattle.pcc.specs.declared.answer.Written.TheVariants as written
+use Rattle.std.specs.Prelude.{Bool, false, ℕ, Result, Ok, Err}
+use Rattle.mctp.specs.declared.refusal.Refusal.{Refusal}
+use Rattle.mctp.specs.Refusals.{outcome_number}
+use Rattle.pcc.specs.declared.answer.Packet.{Packet}
 
 -- "the number (0 where good)"
-abbrev pub number_read : Carried → ℕ
-number_read (Packet size notify) = 0
-number_read (Refused why) = number_of why
+abbrev pub number_read : Result Packet Refusal → ℕ
+number_read answer = outcome_number answer
 
 -- "a part of the region, empty where refused": its size
-abbrev pub size_read : Carried → ℕ
-size_read (Packet size notify) = size
-size_read (Refused why) = 0
+abbrev pub size_read : Result Packet Refusal → ℕ
+size_read (Ok packet) = packet.size
+size_read (Err why) = 0
 
 -- "the notify flag (clear where refused)"
-abbrev pub notify_read : Carried → Bool
-notify_read (Packet size notify) = notify
-notify_read (Refused why) = false
+abbrev pub notify_read : Result Packet Refusal → Bool
+notify_read (Ok packet) = packet.notify
+notify_read (Err why) = false
 
 -- the number of an attempt to write, 0 where the packet was written
-abbrev pub number_written : Written → ℕ
-number_written written.Whole = 0
-number_written (written.Refused why) = number_of why
+abbrev pub number_written : Result Unit Refusal → ℕ
+number_written answer = outcome_number answer

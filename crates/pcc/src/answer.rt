@@ -1,16 +1,8 @@
-// The answers of reading and of writing.
-use mctp::Refusal;
+// What a region answers that carries a packet.
 
-// A region as it was read: it carries a packet of this size, which `part` cuts out, or it is refused.
+// The packet's size, by which `part` cuts it out, and whether its sender asks for notice of completion.
 #[derive(Clone, Copy)]
-pub enum Carried {
-    Packet { size: usize, notify: bool },
-    Refused(Refusal),
-}
-
-// A packet as it was written: whole, or not at all.
-#[derive(Clone, Copy)]
-pub enum Written {
-    Whole,
-    Refused(Refusal),
+pub struct Packet {
+    pub size: usize,
+    pub notify: bool,
 }

@@ -6,6 +6,6 @@ mod layout;
 mod reading;
 mod writing;
 
-pub use answer::{Carried, Written};
+pub use answer::Packet;
 pub use reading::{notify, packet, part, read, refusal};
 pub use writing::{write, write_apart};

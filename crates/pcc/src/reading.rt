@@ -3,12 +3,12 @@ ghost use Rattle.std.specs.Prelude.{◌≡◌};
 ghost use Rattle.pcc.specs.Reading.{refusal_of, size_of, part_of, packet_of, notify_of};
 ghost use Rattle.pcc.specs.Answers.{number_read, size_read, notify_read};
 
-use crate::answer::Carried;
+use crate::answer::Packet;
 use crate::layout::{COMMAND, SIGNATURE};
 use mctp::{LARGEST_BODY, Refusal};
 
 // What the region carries under this id: the packet's size with the notify flag, or the refusal.
-pub fn read(region: &[u8], id: u32) -> Carried
+pub fn read(region: &[u8], id: u32) -> Result<Packet, Refusal>
     ensures number { number_read result ≡ refusal_of 64 region.now id }
     ensures size { size_read result ≡ size_of 64 region.now id }
     ensures notify { notify_read result ≡ notify_of 64 region.now id }
@@ -20,30 +20,22 @@ pub fn read(region: &[u8], id: u32) -> Carried
 pub fn packet(region: &[u8], id: u32) -> &[u8]
     ensures { result.now ≡ packet_of 64 region.now id }
 {
-    match read(region, id) {
-        Carried::Packet { size, notify: _ } => part(region, size),
-        Carried::Refused(_) => part(region, 0),
-    }
+    let size = read(region, id).map_or(0, |packet| packet.size);
+    part(region, size)
 }
 
 // The refusal's number; 0 where good.
 pub fn refusal(region: &[u8], id: u32) -> u8
     ensures { result ≡ refusal_of 64 region.now id }
 {
-    match read(region, id) {
-        Carried::Packet { size: _, notify: _ } => 0,
-        Carried::Refused(why) => why.number(),
-    }
+    read(region, id).err().map_or(0, Refusal::number)
 }
 
 // Notify on completion; clear where refused.
 pub fn notify(region: &[u8], id: u32) -> bool
     ensures { result ≡ notify_of 64 region.now id }
 {
-    match read(region, id) {
-        Carried::Packet { size: _, notify } => notify,
-        Carried::Refused(_) => false,
-    }
+    read(region, id).is_ok_and(|packet| packet.notify)
 }
 
 // So many bytes of the region from place 16 on, where a packet stands; fewer where the region ends before.
@@ -56,38 +48,30 @@ pub fn part(region: &[u8], size: usize) -> &[u8]
 }
 
 // The one function that looks at a region; every check has its line, in the order of document 01.
-fn read_within(most: usize, region: &[u8], id: u32) -> Carried
+#[tactic(auto, unfolding(crate::specs::Reading::refusal_of, crate::specs::Reading::size_of, crate::specs::Reading::notify_of))]
+fn read_within(most: usize, region: &[u8], id: u32) -> Result<Packet, Refusal>
     ensures number { number_read result ≡ refusal_of most region.now id }
     ensures size { size_read result ≡ size_of most region.now id }
     ensures notify { notify_read result ≡ notify_of most region.now id }
 {
-    if !mctp::body_right(most) {
-        return Carried::Refused(Refusal::Setup);
-    }
-    if 255 < id {
-        return Carried::Refused(Refusal::Setup);
+    if !mctp::body_right(most) || 255 < id {
+        return Err(Refusal::Setup);
     }
     if region.len() < 84 {
-        return Carried::Refused(Refusal::Room);
+        return Err(Refusal::Room);
     }
     if octets::word_low_first(region, 0) != SIGNATURE + id {
-        return Carried::Refused(Refusal::Signature);
+        return Err(Refusal::Signature);
     }
     if octets::word_low_first(region, 12) != COMMAND {
-        return Carried::Refused(Refusal::Command);
+        return Err(Refusal::Command);
     }
     let length = octets::word_low_first(region, 8) as usize;
-    if length < 9 {
-        return Carried::Refused(Refusal::Size);
+    if !(9..=8 + most).contains(&length) || region.len() - 12 < length {
+        return Err(Refusal::Size);
     }
-    if most < length - 8 {
-        return Carried::Refused(Refusal::Size);
-    }
-    if region.len() - 12 < length {
-        return Carried::Refused(Refusal::Size);
-    }
-    Carried::Packet {
+    Ok(Packet {
         size: length - 4,
         notify: octets::word_low_first(region, 4) % 2 == 1,
-    }
+    })
 }

@@ -2,16 +2,15 @@
 ghost use Rattle.std.specs.Prelude.{◌≡◌, ◌++◌, ◌+◌, ◌≤◌, length};
 ghost use Rattle.octets.specs.Bytes.{fronted};
 ghost use Rattle.mctp.specs.Refusals.{outcome_number};
-ghost use Rattle.pcc.specs.Layout.{flags_of, region_of};
+ghost use Rattle.pcc.specs.Layout.{region_of};
 ghost use Rattle.pcc.specs.Writing.{write_refusal, written_of};
 ghost use Rattle.pcc.specs.Answers.{number_written};
 
-use crate::answer::Written;
 use crate::layout::{COMMAND, SIGNATURE};
-use mctp::{LARGEST_BODY, Outcome, Refusal};
+use mctp::{LARGEST_BODY, Refusal};
 
 // The packet written under this id; where refused the region stays as it was.
-pub fn write(region: &mut [u8], id: u32, notify: bool, packet: &[u8]) -> Written
+pub fn write(region: &mut [u8], id: u32, notify: bool, packet: &[u8]) -> Result<(), Refusal>
     ensures number { number_written result ≡ write_refusal 64 (length region.old) id
         (length packet.now) }
     ensures region { region.new ≡ written_of 64 region.old id notify packet.now }
@@ -22,6 +21,7 @@ pub fn write(region: &mut [u8], id: u32, notify: bool, packet: &[u8]) -> Written
 
 // A packet whose header and body lie apart, with the largest body as a number: who cuts a message needs no buffer of a
 // packet.
+#[tactic(auto, using(crate::proofs::Writings::good), unfolding(crate::specs::Writing::written_of))]
 pub fn write_apart(
     most: usize,
     region: &mut [u8],
@@ -29,41 +29,32 @@ pub fn write_apart(
     notify: bool,
     header: &[u8],
     body: &[u8],
-) -> Written
+) -> Result<(), Refusal>
     ensures number { number_written result ≡ write_refusal most (length region.old) id
         (length (header.now ++ body.now)) }
     ensures region { region.new ≡ written_of most region.old id notify
         (header.now ++ body.now) }
 {
-    match may_write(most, region.len(), id, header.len() + body.len()) {
-        Outcome::Good => {
-            fill(region, id, notify, header, body);
-            Written::Whole
-        }
-        Outcome::Refused(why) => Written::Refused(why),
-    }
+    may_write(most, region.len(), id, header.len() + body.len())?;
+    fill(region, id, notify, header, body);
+    Ok(())
 }
 
 // Whether a packet of this size may be written: by the lengths and the id alone.
-fn may_write(most: usize, room: usize, id: u32, size: usize) -> Outcome
+#[tactic(auto, unfolding(crate::specs::Writing::write_refusal))]
+fn may_write(most: usize, room: usize, id: u32, size: usize) -> Result<(), Refusal>
     ensures { outcome_number result ≡ write_refusal most room id size }
 {
-    if !mctp::body_right(most) {
-        return Outcome::Refused(Refusal::Setup);
-    }
-    if 255 < id {
-        return Outcome::Refused(Refusal::Setup);
+    if !mctp::body_right(most) || 255 < id {
+        return Err(Refusal::Setup);
     }
     if !mctp::size_right(most, size) {
-        return Outcome::Refused(Refusal::Size);
+        return Err(Refusal::Size);
     }
-    if room < 84 {
-        return Outcome::Refused(Refusal::Room);
+    if room < 84 || room < 16 + size {
+        return Err(Refusal::Room);
     }
-    if room - 16 < size {
-        return Outcome::Refused(Refusal::Room);
-    }
-    Outcome::Good
+    Ok(())
 }
 
 // The four words and the packet in its two pieces, one after the other.
@@ -75,15 +66,9 @@ fn fill(region: &mut [u8], id: u32, notify: bool, header: &[u8], body: &[u8])
 {
     let size = header.len() + body.len();
     octets::lay_low_first(region, 0, SIGNATURE + id);
-    octets::lay_low_first(region, 4, flags(notify));
+    octets::lay_low_first(region, 4, u32::from(notify));
     octets::lay_low_first(region, 8, (4 + size) as u32);
     octets::lay_low_first(region, 12, COMMAND);
     octets::lay(region, 16, header);
     octets::lay(region, 16 + header.len(), body);
-}
-
-fn flags(notify: bool) -> u32
-    ensures { result ≡ flags_of notify }
-{
-    if notify { 1 } else { 0 }
 }

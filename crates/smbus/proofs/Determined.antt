@@ -5,12 +5,12 @@ use mathlib.Core.List.{◌++◌}
 use native.Mathlib.Omega.{arith}
 use contract.Lifetimes.{Lfts}
 use lib.ListN.{length}
+use Prim.Native.Nat.{ℕ}
+use Rattle.std.proofs.Common.{Result, Ok, Err}
+use Rattle.mctp.specs.declared.refusal.Refusal.{Refusal}
 use Rattle.octets.proofs.Choice.{determined}
 use Rattle.mctp.proofs.Refusals.{number_injective, number_positive}
-use Rattle.smbus.specs.declared.answer.Carried.{Carried}
-use Rattle.smbus.specs.declared.answer.Carried.TheVariants as carried
-use Rattle.smbus.specs.declared.answer.Written.{Written}
-use Rattle.smbus.specs.declared.answer.Written.TheVariants as written
+use Rattle.smbus.specs.declared.answer.Packet.{Packet}
 use Rattle.smbus.specs.Writing.{write_refusal, size_of, written_of}
 use Rattle.smbus.specs.Answers.{number_read, source_read, number_written, size_written}
 use Rattle.smbus.proofs.reading.packet.Reads as packet
@@ -22,17 +22,19 @@ use Rattle.smbus.proofs.writing.write.Reads as writing
 use Rattle.smbus.proofs.writing.write_apart.Reads as apart
 
 -- Answers that say the same are the same.
-carried_injective : (a b : Carried) → number_read a ≡ number_read b → source_read a ≡ source_read b → a ≡ b
-carried_injective (carried.Packet x) (carried.Packet y) n s = ap carried.Packet s
-carried_injective (carried.Packet x) (carried.Refused why) n s = absurd (omega (arith, number_positive why))
-carried_injective (carried.Refused why) (carried.Packet y) n s = absurd (omega (arith, number_positive why))
-carried_injective (carried.Refused why) (carried.Refused other) n s = ap carried.Refused (number_injective why other n)
+read_injective : (a b : Result Packet Refusal) → number_read a ≡ number_read b → source_read a ≡ source_read b → a ≡ b
+read_injective (Ok x) (Ok y) n s = λ i. Ok (record { source = s i })
+read_injective (Ok x) (Err why) n s = absurd (omega (arith, number_positive why))
+read_injective (Err why) (Ok y) n s = absurd (omega (arith, number_positive why))
+read_injective (Err why) (Err other) n s = ap Err (number_injective why other n)
 
-pub written_injective : (a b : Written) → number_written a ≡ number_written b → size_written a ≡ size_written b → a ≡ b
-written_injective (written.Frame m) (written.Frame k) n s = ap written.Frame s
-written_injective (written.Frame m) (written.Refused why) n s = absurd (omega (arith, number_positive why))
-written_injective (written.Refused why) (written.Frame k) n s = absurd (omega (arith, number_positive why))
-written_injective (written.Refused why) (written.Refused other) n s = ap written.Refused (number_injective why other n)
+pub written_injective : (a b : Result ℕ Refusal) → number_written a ≡ number_written b
+    → size_written a ≡ size_written b
+    → a ≡ b
+written_injective (Ok m) (Ok k) n s = ap Ok s
+written_injective (Ok m) (Err why) n s = absurd (omega (arith, number_positive why))
+written_injective (Err why) (Ok k) n s = absurd (omega (arith, number_positive why))
+written_injective (Err why) (Err other) n s = ap Err (number_injective why other n)
 
 -- The part holds the same bytes; where it lies is not said.
 pub packet_determined : (κs : Lfts 1) (a r q e f : _) → packet.Post κs a r e → packet.Post κs a q f → r.now ≡ q.now
@@ -48,7 +50,7 @@ pub source_determined : (κs : Lfts 1) (a r q e f : _) → source.Post κs a r e
 source_determined κs a r q e f p o = determined p o
 
 pub read_determined : (κs : Lfts 1) (a r q e f : _) → carrying.Post κs a r e → carrying.Post κs a q f → r ≡ q
-read_determined κs a r q e f p o = carried_injective r q (determined p.0 o.0) (determined p.1 o.1)
+read_determined κs a r q e f p o = read_injective r q (determined p.0 o.0) (determined p.1 o.1)
 
 -- The answer and the output.
 pub write_determined : (κs : Lfts 2) (a r q e f : _) → writing.Post κs a r e → writing.Post κs a q f

@@ -8,8 +8,7 @@ use lib.ListN.{length, take, set, replicate}
 use Rattle.octets.specs.Bytes.{fronted}
 use Rattle.mctp.specs.declared.refusal.Refusal.TheVariants.{Room, Pec}
 use Rattle.pec.specs.Remainder.{poly_step, eight_steps, byte_step, pec_from, pec_of}
-use Rattle.smbus.specs.declared.answer.Carried.TheVariants as carried
-use Rattle.smbus.specs.declared.answer.Written.TheVariants as written
+use Rattle.std.proofs.Common.{Ok, Err}
 use Rattle.smbus.specs.Answers.{number_read, source_read, number_written, size_written}
 use Rattle.smbus.specs.Layout.{head_of, covered_of, frame_of}
 use Rattle.smbus.specs.Reading.{end_of, before_end, refusal_of, part_of, packet_of, source_address_of}
@@ -143,13 +142,13 @@ unwritten_long = refl
 
 -- the calls' answers in document 01's numbers: no value is another one's
 pub answers_read :
-    map number_read (carried.Packet 17 ∷ carried.Refused Pec ∷ [])
-    ++ map source_read (carried.Packet 17 ∷ carried.Refused Pec ∷ [])
+    map number_read (Ok (record { source = 17 }) ∷ Err Pec ∷ [])
+    ++ map source_read (Ok (record { source = 17 }) ∷ Err Pec ∷ [])
     ≡ 0 ∷ 8 ∷ 17 ∷ 0 ∷ []
 answers_read = refl
 
 pub answers_written :
-    map number_written (written.Frame 10 ∷ written.Refused Room ∷ [])
-    ++ map size_written (written.Frame 10 ∷ written.Refused Room ∷ [])
+    map number_written (Ok 10 ∷ Err Room ∷ [])
+    ++ map size_written (Ok 10 ∷ Err Room ∷ [])
     ≡ 0 ∷ 2 ∷ 10 ∷ 0 ∷ []
 answers_written = refl

@@ -1,28 +1,24 @@
 -- What the carrier's answers say: document 01's number, and the value that goes with it.
 -- Assumes nothing.
-use Rattle.std.specs.Prelude.{ℕ}
-use Rattle.mctp.specs.Refusals.{number_of}
-use Rattle.smbus.specs.declared.answer.Carried.{Carried}
-use Rattle.smbus.specs.declared.answer.Carried.TheVariants as carried
-use Rattle.smbus.specs.declared.answer.Written.{Written}
-use Rattle.smbus.specs.declared.answer.Written.TheVariants as written
+use Rattle.std.specs.Prelude.{ℕ, Result, Ok, Err}
+use Rattle.std.specs.Result.{result_unwrap_or}
+use Rattle.mctp.specs.declared.refusal.Refusal.{Refusal}
+use Rattle.mctp.specs.Refusals.{outcome_number}
+use Rattle.smbus.specs.declared.answer.Packet.{Packet}
 
 -- "The refusal number (0 where good)"
-abbrev pub number_read : Carried → ℕ
-number_read (carried.Packet source) = 0
-number_read (carried.Refused why) = number_of why
+abbrev pub number_read : Result Packet Refusal → ℕ
+number_read answer = outcome_number answer
 
 -- "and the source address (0 where refused)"
-abbrev pub source_read : Carried → ℕ
-source_read (carried.Packet source) = source
-source_read (carried.Refused why) = 0
+abbrev pub source_read : Result Packet Refusal → ℕ
+source_read (Ok packet) = packet.source
+source_read (Err why) = 0
 
 -- the refusal number, 0 where written
-abbrev pub number_written : Written → ℕ
-number_written (written.Frame size) = 0
-number_written (written.Refused why) = number_of why
+abbrev pub number_written : Result ℕ Refusal → ℕ
+number_written answer = outcome_number answer
 
 -- the frame's length, 0 where refused
-abbrev pub size_written : Written → ℕ
-size_written (written.Frame size) = size
-size_written (written.Refused why) = 0
+abbrev pub size_written : Result ℕ Refusal → ℕ
+size_written answer = result_unwrap_or answer 0

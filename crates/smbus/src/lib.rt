@@ -5,6 +5,6 @@ mod answer;
 mod reading;
 mod writing;
 
-pub use answer::{Carried, Written};
+pub use answer::Packet;
 pub use reading::{packet, part, read, refusal, source};
 pub use writing::{write, write_apart};

@@ -6,11 +6,10 @@ ghost use Rattle.smbus.specs.Layout.{frame_of};
 ghost use Rattle.smbus.specs.Writing.{write_refusal, size_of, written_of};
 ghost use Rattle.smbus.specs.Answers.{number_written, size_written};
 
-use crate::answer::Written;
-use mctp::{LARGEST_BODY, Outcome, Refusal};
+use mctp::{LARGEST_BODY, Refusal};
 
 // The frame at the front of the output, the rest unchanged; nothing is written where the answer is a refusal.
-pub fn write(out: &mut [u8], packet: &[u8], destination: u8, source: u8) -> Written
+pub fn write(out: &mut [u8], packet: &[u8], destination: u8, source: u8) -> Result<usize, Refusal>
     ensures number { number_written result
         ≡ write_refusal 64 (length out.old) (length packet.now) destination source }
     ensures size { size_written result
@@ -24,6 +23,7 @@ pub fn write(out: &mut [u8], packet: &[u8], destination: u8, source: u8) -> Writ
 
 // A packet whose header and body lie apart, with the largest body as a number: who cuts a message needs no buffer of a
 // packet.
+#[tactic(auto, using(crate::proofs::Writings::good), unfolding(crate::specs::Writing::size_of, crate::specs::Writing::written_of))]
 pub fn write_apart(
     most: usize,
     out: &mut [u8],
@@ -31,7 +31,7 @@ pub fn write_apart(
     body: &[u8],
     destination: u8,
     source: u8,
-) -> Written
+) -> Result<usize, Refusal>
     ensures number { number_written result ≡ write_refusal most (length out.old)
         (length (header.now ++ body.now)) destination source }
     ensures size { size_written result ≡ size_of most (length out.old)
@@ -40,35 +40,32 @@ pub fn write_apart(
         ≡ written_of most out.old (header.now ++ body.now) destination source }
 {
     let size = header.len() + body.len();
-    match may_write(most, out.len(), size, destination, source) {
-        Outcome::Good => {
-            fill(out, header, body, destination, source);
-            Written::Frame(5 + size)
-        }
-        Outcome::Refused(why) => Written::Refused(why),
-    }
+    may_write(most, out.len(), size, destination, source)?;
+    fill(out, header, body, destination, source);
+    Ok(5 + size)
 }
 
 // Whether a packet of this size may be written: all that is refused is refused here, before a byte is stored.
-fn may_write(most: usize, room: usize, size: usize, destination: u8, source: u8) -> Outcome
+#[tactic(auto, unfolding(crate::specs::Writing::write_refusal))]
+fn may_write(
+    most: usize,
+    room: usize,
+    size: usize,
+    destination: u8,
+    source: u8,
+) -> Result<(), Refusal>
     ensures { outcome_number result ≡ write_refusal most room size destination source }
 {
-    if !mctp::body_right(most) {
-        return Outcome::Refused(Refusal::Setup);
-    }
-    if 127 < destination {
-        return Outcome::Refused(Refusal::Setup);
-    }
-    if 127 < source {
-        return Outcome::Refused(Refusal::Setup);
+    if !mctp::body_right(most) || 127 < destination || 127 < source {
+        return Err(Refusal::Setup);
     }
     if !mctp::size_right(most, size) {
-        return Outcome::Refused(Refusal::Size);
+        return Err(Refusal::Size);
     }
     if room < 5 + size {
-        return Outcome::Refused(Refusal::Room);
+        return Err(Refusal::Room);
     }
-    Outcome::Good
+    Ok(())
 }
 
 // The head, the packet in its two pieces, and the PEC of all three: of the bytes as they came, since those that were
