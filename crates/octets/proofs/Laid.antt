@@ -3,13 +3,12 @@
 -- Assumes nothing.
 use mathlib.Core.Path.{◌≡◌, refl, ap, sym, ◌∙◌}
 use mathlib.Core.List.{List, [], ◌∷◌, ◌++◌, append_assoc}
-use mathlib.Core.Logic.{◌⊎◌, inl, inr, by_cases}
-use Prim.Native.Nat.{ℕ, zero, suc, min, ◌+◌, ◌-◌, ◌≤◌, ◌<◌}
-use native.Mathlib.Decide.{dec_lt}
+use mathlib.Core.Logic.{◌⊎◌, inl, inr}
+use Prim.Native.Nat.{ℕ, zero, suc, ◌+◌, ◌-◌, ◌≤◌, ◌<◌}
 use native.Mathlib.Nat.{add-zero, zero-add, add-suc, suc-add}
 use native.Mathlib.Omega.{arith}
 use lib.ListN.{length, get_or, take, drop, set, length-set}
-use lib.Seq.{sets-eq, length-sets, set_out, set_comm, take_all, length-take-le, get_or-set_other}
+use lib.Seq.{sets-eq, length-sets, set_out, set_comm, get_or-set_other}
 use lib.Seq.{drop-drop, drop-set-lt, drop-set-add, take-set-le}
 use borrow.Rule.Slice.PartMut.{put_mid}
 use Rattle.octets.specs.Bytes.{part, laid, fronted}
@@ -52,20 +51,11 @@ pub laid_fits : (l : List ℕ) (at : ℕ) (new : List ℕ) → at + length new �
 unfolding laid
 laid_fits l at new h = sets-eq new l at h ∙ append_assoc (take at l) new (drop (at + length new) l)
 
--- what is copied, as much as fits or all there is, is what is laid
-pub laid_copied : (l : List ℕ) (at : ℕ) (new : List ℕ) (n : ℕ) (copied : List ℕ) → at < length l
-    → n ≡ min (length new) (length l - at) → copied ≡ take n new
-    → put_mid at (at + n - at) l copied ≡ laid l at new
-laid_copied l at new n copied inside e same =
-    let size : at + n - at ≡ n = omega arith in
-    let count : length (take n new) ≡ n = length-take-le n new (omega arith) in
-    let whole : laid l at (take n new) ≡ laid l at new = by_cases (dec_lt n (length new))
-    (λ (h : n < length new). laid_cut l at new n (omega arith))
-    (λ (h : n < length new → ⊥). ap (laid l at) (take_all n new (omega arith))) in
-    rw (size, same, drop-drop n at l)
-    (ap (λ (k : ℕ). take at l ++ (take n new ++ drop (at + k) l)) (sym count)
-    ∙ sym (laid_fits l at (take n new) (omega arith))
-    ∙ whole)
+-- what is copied into a part of its length is laid there
+pub laid_copied : (l : List ℕ) (at k : ℕ) (new : List ℕ) → k ≡ length new → at + length new ≤ length l
+    → put_mid at k l new ≡ laid l at new
+laid_copied l at k new e h =
+    rw (e, drop-drop (length new) at l) (sym (laid_fits l at new h))
 
 -- the length stays
 pub laid-length : (l : List ℕ) (at : ℕ) (new : List ℕ) → length (laid l at new) ≡ length l

@@ -16,7 +16,11 @@ pub fn lay(out: &mut [u8], at: usize, new: &[u8])
     ensures { out.new ≡ laid out.old at new.now }
 {
     if at < out.len() {
-        let n = new.len().min(out.len() - at);
-        out[at..at + n].copy_from_slice(&new[..n]);
+        let room = out.len() - at;
+        if new.len() <= room {
+            out[at..at + new.len()].copy_from_slice(new);
+        } else {
+            out[at..].copy_from_slice(&new[..room]);
+        }
     }
 }
