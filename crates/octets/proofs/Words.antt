@@ -70,6 +70,14 @@ unfolding word_at
 word_below low_first s at b = omega (arith, b at, b (at + 1), b (at + 2), b (at + 3))
 word_below high_first s at b = omega (arith, b at, b (at + 1), b (at + 2), b (at + 3))
 
+-- what is read at a list's first four places makes its first word
+made : (o : Order) (s : List ℕ) (a b c d : ℕ)
+    → a ≡ get_or s 0 0 → b ≡ get_or s 1 0 → c ≡ get_or s 2 0 → d ≡ get_or s 3 0
+    → word_at o (a ∷ b ∷ c ∷ d ∷ []) 0 ≡ word_at o s 0
+unfolding word_at
+made low_first s a b c d e f g h = cc
+made high_first s a b c d e f g h = cc
+
 -- a list's first four places
 pub four : (s : List ℕ) → 4 ≤ length s → take 4 s ≡ get_or s 0 0 ∷ get_or s 1 0 ∷ get_or s 2 0 ∷ get_or s 3 0 ∷ []
 four [] h = absurd (omega arith)
@@ -122,6 +130,14 @@ word_part : (o : Order) (s : List ℕ) (at : ℕ) → word_at o (part s at 4) 0 
 word_part o s at =
     word_same o (part s at 4) s 0 at
     (λ (k : ℕ) (h : k < 4). rw (zero-add k) (get_or-take 4 (drop at s) k 0 h ∙ get_or-drop at s k 0))
+
+-- so what is read at its four places makes the word
+pub word_of_part : (o : Order) (s : List ℕ) (at : ℕ) (four : List ℕ) (a b c d : ℕ) → four ≡ part s at 4
+    → a ≡ get_or four 0 0 → b ≡ get_or four 1 0 → c ≡ get_or four 2 0 → d ≡ get_or four 3 0
+    → word_at o (a ∷ b ∷ c ∷ d ∷ []) 0 ≡ word_at o s at
+word_of_part o s at four a b c d e e₀ e₁ e₂ e₃ =
+    let read : word_at o (a ∷ b ∷ c ∷ d ∷ []) 0 ≡ word_at o four 0 = made o four a b c d e₀ e₁ e₂ e₃ in
+    read ∙ ap (λ (l : List ℕ). word_at o l 0) e ∙ word_part o s at
 
 -- one that lies before or behind what is laid stays
 pub laid_word_beside : (o : Order) (s : List ℕ) (at : ℕ) (new : List ℕ) (other : ℕ)

@@ -1,5 +1,5 @@
 // A copy into the middle of a lent list: the rest stays as it was.
-ghost use Rattle.std.specs.Prelude.{◌≡◌, [], ◌∷◌, min};
+ghost use Rattle.std.specs.Prelude.{◌≡◌, [], ◌∷◌};
 ghost use Rattle.octets.specs.Bytes.{laid};
 
 // One byte stored at place `at`; past the end nothing is stored.
@@ -15,19 +15,12 @@ pub fn lay_byte(out: &mut [u8], at: usize, b: u8)
 pub fn lay(out: &mut [u8], at: usize, new: &[u8])
     ensures { out.new ≡ laid out.old at new.now }
 {
-    if out.len() <= at {
-        return;
+    if at < out.len() {
+        let room = out.len() - at;
+        if new.len() <= room {
+            out[at..at + new.len()].copy_from_slice(new);
+        } else {
+            out[at..].copy_from_slice(&new[..room]);
+        }
     }
-    let n = least(out.len() - at, new.len());
-    let mut i = 0;
-    while i < n {
-        out[at + i] = new[i];
-        i += 1;
-    }
-}
-
-fn least(a: usize, b: usize) -> usize
-    ensures { result ≡ min a b }
-{
-    if a < b { a } else { b }
 }

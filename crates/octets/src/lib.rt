@@ -8,4 +8,4 @@ mod word;
 
 pub use copy::{lay, lay_byte};
 pub use read::{byte_at, part};
-pub use word::{lay_high_first, lay_low_first, word_high_first, word_low_first};
+pub use word::{ByteOrder, HighFirst, LowFirst, lay_word, word_at};

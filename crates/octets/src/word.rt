@@ -1,85 +1,68 @@
 // Words of four bytes, in both byte orders.
-ghost use Rattle.std.specs.Prelude.{◌≡◌, [], ◌∷◌, ◌<◌};
-ghost use Rattle.octets.specs.Words.{low_first, high_first, value, word_at, word_bytes};
+ghost use Rattle.std.specs.Prelude.{◌≡◌};
+ghost use Rattle.octets.specs.Words.{Order, low_first, high_first, word_at, word_bytes};
 ghost use Rattle.octets.specs.Bytes.{laid};
 
-use crate::copy::lay_byte;
-use crate::read::byte_at;
+use crate::copy::lay;
+use crate::read::{octet, part};
 
-// The word at place `at`, its lowest byte first; bytes past the end count as 0.
-pub fn word_low_first(s: &[u8], at: usize) -> u32
-    ensures { result ≡ word_at low_first s.now at }
-{
-    if s.len() <= at {
-        return 0;
+// Which byte of a word stands first; the library's conversion for that order.
+pub trait ByteOrder {
+    ghost order: { Order };
+
+    fn word(bytes: [u8; 4]) -> u32
+        ensures { result ≡ word_at order bytes 0 };
+
+    fn bytes(w: u32) -> [u8; 4]
+        ensures { result ≡ word_bytes order w };
+}
+
+// The lowest byte first, as PCC's words stand.
+pub struct LowFirst;
+
+impl ByteOrder for LowFirst {
+    ghost order = { low_first };
+
+    fn word(bytes: [u8; 4]) -> u32 {
+        u32::from_le_bytes(bytes)
     }
-    joined(
-        byte_at(s, at),
-        byte_at(s, at + 1),
-        byte_at(s, at + 2),
-        byte_at(s, at + 3),
-    )
-}
 
-// The word at place `at`, its highest byte first; bytes past the end count as 0.
-pub fn word_high_first(s: &[u8], at: usize) -> u32
-    ensures { result ≡ word_at high_first s.now at }
-{
-    if s.len() <= at {
-        return 0;
+    fn bytes(w: u32) -> [u8; 4] {
+        w.to_le_bytes()
     }
-    joined(
-        byte_at(s, at + 3),
-        byte_at(s, at + 2),
-        byte_at(s, at + 1),
-        byte_at(s, at),
-    )
 }
 
-// The word's four bytes laid over `out` from place `at` on, the lowest first.
-pub fn lay_low_first(out: &mut [u8], at: usize, w: u32)
-    ensures { out.new ≡ laid out.old at (word_bytes low_first w) }
-{
-    lay_four(
-        out,
-        at,
-        (w % 256) as u8,
-        (w / 256 % 256) as u8,
-        (w / 65536 % 256) as u8,
-        (w / 16777216 % 256) as u8,
-    );
-}
+// The highest byte first, as MMBI's words stand (003, 4.2: "Big Endian").
+pub struct HighFirst;
 
-// The word's four bytes laid over `out` from place `at` on, the highest first.
-pub fn lay_high_first(out: &mut [u8], at: usize, w: u32)
-    ensures { out.new ≡ laid out.old at (word_bytes high_first w) }
-{
-    lay_four(
-        out,
-        at,
-        (w / 16777216 % 256) as u8,
-        (w / 65536 % 256) as u8,
-        (w / 256 % 256) as u8,
-        (w % 256) as u8,
-    );
-}
+impl ByteOrder for HighFirst {
+    ghost order = { high_first };
 
-fn lay_four(out: &mut [u8], at: usize, a: u8, b: u8, c: u8, d: u8)
-    ensures { out.new ≡ laid out.old at (a ∷ b ∷ c ∷ d ∷ []) }
-{
-    if out.len() <= at {
-        return;
+    fn word(bytes: [u8; 4]) -> u32 {
+        u32::from_be_bytes(bytes)
     }
-    lay_byte(out, at, a);
-    lay_byte(out, at + 1, b);
-    lay_byte(out, at + 2, c);
-    lay_byte(out, at + 3, d);
+
+    fn bytes(w: u32) -> [u8; 4] {
+        w.to_be_bytes()
+    }
 }
 
-// The number that four bytes make, the lowest given first.
-fn joined(a: u32, b: u32, c: u32, d: u32) -> u32
-    requires { (a < 256) × (b < 256) × (c < 256) × (d < 256) }
-    ensures { result ≡ value (a ∷ b ∷ c ∷ d ∷ []) }
+// The word at place `at`; bytes past the end count as 0.
+pub fn word_at<O: ByteOrder>(s: &[u8], at: usize) -> u32
+    ensures { result ≡ word_at O.order s.now at }
 {
-    a + 256 * (b + 256 * (c + 256 * d))
+    let four = part(s, at, 4);
+    O::word([
+        octet(four, 0),
+        octet(four, 1),
+        octet(four, 2),
+        octet(four, 3),
+    ])
+}
+
+// The word's four bytes laid over `out` from place `at` on.
+pub fn lay_word<O: ByteOrder>(out: &mut [u8], at: usize, w: u32)
+    ensures { out.new ≡ laid out.old at (word_bytes O.order w) }
+{
+    lay(out, at, &O::bytes(w));
 }
