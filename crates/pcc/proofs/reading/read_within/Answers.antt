@@ -27,14 +27,14 @@ returns-then-region-lt84 c =
     let b = body in
     says_refused _ _ _ Room (refused_at _ _ _ 2 (omega (arith, tests)))
 
-pub returns-then-word_low_first-id : goal.returns-then-word_low_first-id
-returns-then-word_low_first-id c =
+pub returns-then-word_at-id : goal.returns-then-word_at-id
+returns-then-word_at-id c =
     let body : body_right c.args.most ≡ true = sym c.body_right.ensures ∙ c.if-not-body_right.false in
     let b = body in
     says_refused _ _ _ Signature (refused_at _ _ _ 3 (omega (arith, tests)))
 
-pub returns-then-word_low_first-ne-COMMAND : goal.returns-then-word_low_first-ne-COMMAND
-returns-then-word_low_first-ne-COMMAND c =
+pub returns-then-word_at-ne-COMMAND : goal.returns-then-word_at-ne-COMMAND
+returns-then-word_at-ne-COMMAND c =
     let body : body_right c.args.most ≡ true = sym c.body_right.ensures ∙ c.if-not-body_right.false in
     let b = body in
     says_refused _ _ _ Command (refused_at _ _ _ 4 (omega (arith, tests)))
@@ -60,6 +60,6 @@ returns-then-region-length c =
 pub returns : goal.returns
 returns c =
     let body : body_right c.args.most ≡ true = sym c.body_right.ensures ∙ c.if-not-body_right.false in
-    let length = c.word_low_first-length.ensures in
+    let length = c.word_at-length.ensures in
     let b = body in
-    rw (length, c.word_low_first-3.ensures) (says_good _ _ _ (omega (arith, tests)))
+    rw (length, c.word_at-3.ensures) (says_good _ _ _ (omega (arith, tests)))

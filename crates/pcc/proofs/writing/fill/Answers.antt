@@ -16,10 +16,10 @@ returns c =
     rw (
       c.lay-2.ensures,
       c.lay.ensures,
-      c.lay_low_first-4.ensures,
-      c.lay_low_first-3.ensures,
-      c.lay_low_first-2.ensures,
+      c.lay_word-4.ensures,
+      c.lay_word-3.ensures,
+      c.lay_word-2.ensures,
       c.flags.ensures,
-      c.lay_low_first.ensures,
+      c.lay_word.ensures,
     )
     (filled a.region.now a.header.now a.body.now a.id a.notify fits)
