@@ -1,6 +1,7 @@
 // The MMBI descriptor, and the sizes of a window that holds what it tells of.
 use crate::text;
 use descriptor::Configured;
+use octets::HighFirst;
 
 // Version 1, buffer type 1, B2H of 128 bytes at base 16, H2B of 256 bytes at base 32, Host_ROS at base 8,
 // Host_RWS at base 9.
@@ -26,8 +27,8 @@ pub const FAR: u32 = 536870911;
 pub fn read(rt: HostRuntime, byte: u8, base: u32, length: u32, size: usize) {
     let mut window = [0u8; 65536];
     lay(&mut window);
-    octets::lay_high_first(&mut window, byte as usize, base);
-    octets::lay_high_first(&mut window, byte as usize + 8, length);
+    octets::lay_word::<HighFirst>(&mut window, byte as usize, base);
+    octets::lay_word::<HighFirst>(&mut window, byte as usize + 8, length);
     tell(rt, octets::part(&window, 0, size));
 }
 

@@ -1,6 +1,7 @@
 // The length word of a PCC region.
 use crate::packets::ORDER;
 use crate::text::{refused, say, tell};
+use octets::LowFirst;
 use pcc::Carried;
 
 // A region that is right in all but, perhaps, its length word.
@@ -8,7 +9,7 @@ pub fn read(rt: HostRuntime, length: u32) {
     let packet = ORDER;
     let mut region = [0u8; 84];
     pcc::write(&mut region, 3, false, &packet);
-    octets::lay_low_first(&mut region, 8, length);
+    octets::lay_word::<LowFirst>(&mut region, 8, length);
     tell_carried(rt, pcc::read(&region, 3));
 }
 

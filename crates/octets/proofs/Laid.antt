@@ -8,7 +8,7 @@ use Prim.Native.Nat.{ℕ, zero, suc, ◌+◌, ◌-◌, ◌≤◌, ◌<◌}
 use native.Mathlib.Nat.{add-zero, zero-add, add-suc, suc-add}
 use native.Mathlib.Omega.{arith}
 use lib.ListN.{length, get_or, take, drop, set, length-set}
-use lib.Seq.{sets-eq, length-sets, set_out, set_comm, get_or-set_other}
+use lib.Seq.{take-suc, sets-eq, length-sets, set_out, set_comm, length-take-le, get_or-set_other}
 use lib.Seq.{drop-drop, drop-set-lt, drop-set-add, take-set-le}
 use borrow.Rule.Slice.PartMut.{put_mid}
 use Rattle.octets.specs.Bytes.{part, laid, fronted}
@@ -26,16 +26,15 @@ unfolding laid
 laid-append l at [] b = rw add-zero
 laid-append l at (x ∷ a) b = rw (laid-append (set l at x) (suc at) a b, suc-add, add-suc)
 
--- four bytes, one after the other
-pub laid_four : (l : List ℕ) (at a b c d : ℕ)
-    → laid (laid (laid (laid l at (a ∷ [])) (at + 1) (b ∷ [])) (at + 2) (c ∷ [])) (at + 3) (d ∷ [])
-    ≡ laid l at (a ∷ b ∷ c ∷ d ∷ [])
+-- one more byte of a list that is laid from its front on
+pub laid_next : (l : List ℕ) (at : ℕ) (new : List ℕ) (i : ℕ) → i < length new
+    → set (laid l at (take i new)) (at + i) (get_or new i 0) ≡ laid l at (take (suc i) new)
 unfolding laid
-laid_four l at a b c d =
-    let one : at + 1 ≡ suc at = omega arith in
-    let two : at + 2 ≡ suc (suc at) = omega arith in
-    let three : at + 3 ≡ suc (suc (suc at)) = omega arith in
-    rw (one, two, three)
+laid_next l at new i h =
+    sym
+    (ap (laid l at) (take-suc new i 0 h)
+    ∙ laid-append l at (take i new) (get_or new i 0 ∷ [])
+    ∙ ap (λ (k : ℕ). set (laid l at (take i new)) (at + k) (get_or new i 0)) (length-take-le i new (omega arith)))
 
 -- what does not fit falls off
 pub laid_cut : (l : List ℕ) (at : ℕ) (new : List ℕ) (n : ℕ) → length l ≤ at + n → laid l at (take n new) ≡ laid l at new

@@ -6,6 +6,7 @@ ghost use Rattle.pcc.specs.Answers.{number_read, size_read, notify_read};
 use crate::answer::Packet;
 use crate::layout::{COMMAND, SIGNATURE};
 use mctp::{LARGEST_BODY, Refusal};
+use octets::LowFirst;
 
 // What the region carries under this id: the packet's size with the notify flag, or the refusal.
 pub fn read(region: &[u8], id: u32) -> Result<Packet, Refusal>
@@ -60,18 +61,18 @@ fn read_within(most: usize, region: &[u8], id: u32) -> Result<Packet, Refusal>
     if region.len() < 84 {
         return Err(Refusal::Room);
     }
-    if octets::word_low_first(region, 0) != SIGNATURE + id {
+    if octets::word_at::<LowFirst>(region, 0) != SIGNATURE + id {
         return Err(Refusal::Signature);
     }
-    if octets::word_low_first(region, 12) != COMMAND {
+    if octets::word_at::<LowFirst>(region, 12) != COMMAND {
         return Err(Refusal::Command);
     }
-    let length = octets::word_low_first(region, 8) as usize;
+    let length = octets::word_at::<LowFirst>(region, 8) as usize;
     if !(9..=8 + most).contains(&length) || region.len() - 12 < length {
         return Err(Refusal::Size);
     }
     Ok(Packet {
         size: length - 4,
-        notify: octets::word_low_first(region, 4) % 2 == 1,
+        notify: octets::word_at::<LowFirst>(region, 4) % 2 == 1,
     })
 }

@@ -8,6 +8,7 @@ ghost use Rattle.pcc.specs.Answers.{number_written};
 
 use crate::layout::{COMMAND, SIGNATURE};
 use mctp::{LARGEST_BODY, Refusal};
+use octets::LowFirst;
 
 // The packet written under this id; where refused the region stays as it was.
 pub fn write(region: &mut [u8], id: u32, notify: bool, packet: &[u8]) -> Result<(), Refusal>
@@ -65,10 +66,10 @@ fn fill(region: &mut [u8], id: u32, notify: bool, header: &[u8], body: &[u8])
         (region_of id notify (header.now ++ body.now)) }
 {
     let size = header.len() + body.len();
-    octets::lay_low_first(region, 0, SIGNATURE + id);
-    octets::lay_low_first(region, 4, u32::from(notify));
-    octets::lay_low_first(region, 8, (4 + size) as u32);
-    octets::lay_low_first(region, 12, COMMAND);
+    octets::lay_word::<LowFirst>(region, 0, SIGNATURE + id);
+    octets::lay_word::<LowFirst>(region, 4, u32::from(notify));
+    octets::lay_word::<LowFirst>(region, 8, (4 + size) as u32);
+    octets::lay_word::<LowFirst>(region, 12, COMMAND);
     octets::lay(region, 16, header);
     octets::lay(region, 16 + header.len(), body);
 }

@@ -8,6 +8,7 @@ use crate::answer::Carried;
 use crate::{number, round};
 use mctp::Refusal;
 use mmbi::{Flags, Pointers};
+use octets::HighFirst;
 
 // The packet at the read pointer, copied to the output's front; 11 unless the interface is in normal runtime, or one
 // end alone asks for a reset.
@@ -93,7 +94,7 @@ fn find(
         configured,
         read,
         filled,
-        octets::word_high_first(ring, read),
+        octets::word_at::<HighFirst>(ring, read),
     )
 }
 

@@ -6,6 +6,7 @@ ghost use Rattle.window.specs.Words.{store_refusal, with_word, stored, stored_po
 
 use descriptor::{Area, Configuration};
 use mmbi::{Act, Change, Flags, Pointers, Word};
+use octets::HighFirst;
 
 // The four pointers, by the words that hold them: H2B_WP and B2H_RP in Host_RWS, B2H_WP and H2B_RP in Host_ROS.
 #[derive(Clone, Copy)]
@@ -132,7 +133,7 @@ fn lay_word(window: &mut [u8], c: Configuration, which: Pointer, word: Word)
     ensures { window.new ≡ with_word window.old c which word }
 {
     let n = cleared(which, word).number();
-    octets::lay_high_first(window, word_place(c, which), n);
+    octets::lay_word::<HighFirst>(window, word_place(c, which), n);
 }
 
 // The word that holds this pointer, where `ok`; else one of zeros.
@@ -146,7 +147,7 @@ fn word_where(window: &[u8], ok: bool, c: Configuration, which: Pointer) -> Word
             bit0: false,
         };
     }
-    let n = octets::word_high_first(window, word_place(c, which));
+    let n = octets::word_at::<HighFirst>(window, word_place(c, which));
     cleared(which, Word::of_number(n))
 }
 

@@ -9,8 +9,8 @@ returns c =
     rw (
       c.base_at-4.ensures,
       c.base_at-3.ensures,
-      c.word_high_first-2.ensures,
+      c.word_at-2.ensures,
       c.base_at-2.ensures,
-      c.word_high_first.ensures,
+      c.word_at.ensures,
       c.base_at.ensures,
     )

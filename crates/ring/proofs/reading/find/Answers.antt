@@ -114,7 +114,7 @@ returns c =
     let a = c.args in
     let s = known in
     let p = pointed in
-    let header = c.word_high_first.ensures
+    let header = c.word_at.ensures
     ∙ header_straight a.ring.now a.read (omega (arith, s.same, s.size.fours, p.0.fours, p.0.below)) in
     let other = ap not (ne_eqb _ _ c.if-read-write.false) in
     c.judge.ensures

@@ -5,7 +5,7 @@ use Rattle.window.proofs.word.lay_word.Goals as goal
 pub returns : goal.returns
 returns c =
     rw (
-      c.lay_high_first.ensures,
+      c.lay_word.ensures,
       c.word_place.ensures,
       c.number-n.ensures,
       c.cleared.ensures,

@@ -15,6 +15,6 @@ returns c =
       c.if-not-ok.false,
       c.cleared.ensures,
       c.of_number.ensures,
-      c.word_high_first-n.ensures,
+      c.word_at-n.ensures,
       c.word_place.ensures,
     )
