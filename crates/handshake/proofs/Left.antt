@@ -15,10 +15,9 @@ use Rattle.mmbi.specs.Interface.{same_flags, normal_runtime}
 use Rattle.mmbi.proofs.States.{every_flags, every_flags_lem, same_flags_true}
 use Rattle.handshake.specs.declared.host.HostPhase.{HostPhase}
 use Rattle.handshake.specs.declared.host.HostPhase.TheVariants as host
-use Rattle.handshake.specs.declared.host.HostStep.{HostStep}
 use Rattle.handshake.specs.declared.controller.ControllerPhase.{ControllerPhase}
 use Rattle.handshake.specs.declared.controller.ControllerPhase.TheVariants as controller
-use Rattle.handshake.specs.declared.controller.ControllerStep.{ControllerStep}
+use Rattle.handshake.specs.declared.phase.Step.{Step}
 use Rattle.handshake.specs.Order.{host_order, controller_order, among}
 use Rattle.handshake.specs.Phases.{host_is, controller_is}
 use Rattle.handshake.specs.Back.{is_back}
@@ -36,9 +35,9 @@ sees the_controller e = among (controller_order e.controller) e.flags
 
 -- a step that waits leaves all as it was
 pub waits : (end : End) (e : Ends) → sees end e ≡ false → stepped end e ≡ e
-waits the_host e h = ap (λ (s : HostStep). host_leaves s e) (host_waits_lem e.host e.flags h)
+waits the_host e h = ap (λ (s : Step HostPhase). host_leaves s e) (host_waits_lem e.host e.flags h)
 waits the_controller e h =
-    ap (λ (s : ControllerStep). controller_leaves s e) (controller_waits_lem e.controller e.flags h)
+    ap (λ (s : Step ControllerPhase). controller_leaves s e) (controller_waits_lem e.controller e.flags h)
 
 -- the acts that are left, at most so many: whoever can acts, the host first; more than that many where nobody can
 unfoldable pub left_within : ℕ → Ends → ℕ

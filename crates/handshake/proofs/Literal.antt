@@ -6,6 +6,7 @@ use mathlib.Core.Bool.{true, false, ◌&&◌}
 use mathlib.Core.List.{List, [], ◌∷◌, ◌++◌, map}
 use Prim.Native.Nat.{ℕ}
 use lib.Dec.{eqb}
+use Rattle.std.specs.Prelude.{Option, Some, None}
 use Rattle.octets.specs.Choice.{pick}
 use Rattle.mmbi.specs.declared.interface.Flags.{Flags}
 use Rattle.mmbi.specs.Changes.{changed_flags}
@@ -13,12 +14,8 @@ use Rattle.mmbi.specs.Interface.{flags_of}
 use Rattle.mmbi.proofs.States.{sixteen, digits}
 use Rattle.handshake.specs.declared.host.HostPhase.{HostPhase}
 use Rattle.handshake.specs.declared.host.HostPhase.TheVariants as host
-use Rattle.handshake.specs.declared.host.RestartedHost.{RestartedHost}
-use Rattle.handshake.specs.declared.host.RestartedHost.TheVariants as host-restarted
 use Rattle.handshake.specs.declared.controller.ControllerPhase.{ControllerPhase}
 use Rattle.handshake.specs.declared.controller.ControllerPhase.TheVariants as controller
-use Rattle.handshake.specs.declared.controller.RestartedController.{RestartedController}
-use Rattle.handshake.specs.declared.controller.RestartedController.TheVariants as controller-restarted
 use Rattle.handshake.specs.Phases.{host_number, host_phases, controller_number, controller_phases, stored_refusal}
 use Rattle.handshake.specs.Phases.{stored_number, host_asked, controller_asked}
 use Rattle.handshake.specs.Runs.{Ends, the_host, the_controller, steps, running}
@@ -80,22 +77,18 @@ stored_borders = (refl, refl, refl, refl)
 abbrev none : List ℕ
 none = []
 
-abbrev host_given : RestartedHost → List ℕ
-host_given (host-restarted.Phase phase) = host_number phase ∷ []
-host_given host-restarted.NoPhase = none
-
-abbrev controller_given : RestartedController → List ℕ
-controller_given (controller-restarted.Phase phase) = controller_number phase ∷ []
-controller_given controller-restarted.NoPhase = none
+abbrev given : {P : Type 0} → (P → ℕ) → Option P → List ℕ
+given number (Some phase) = number phase ∷ []
+given number None = none
 
 -- from 0000 to 1111: waiting at 0000, 0100, 0111, 1000, 1011 and 1111, asking at 1010 and 1110
-pub host_restart_table : map (λ (f : Flags). host_given (host_from_flags f)) sixteen
+pub host_restart_table : map (λ (f : Flags). given host_number (host_from_flags f)) sixteen
     ≡ (2 ∷ []) ∷ none ∷ none ∷ none ∷ (2 ∷ []) ∷ none ∷ none ∷ (2 ∷ []) ∷ (2 ∷ []) ∷ none ∷ (1 ∷ []) ∷ (2 ∷ []) ∷ none
     ∷ none ∷ (1 ∷ []) ∷ (2 ∷ []) ∷ []
 host_restart_table = refl
 
 -- initializing at 0000, cleared at 0100, down at 0111, asking at 1000, 1010 and 1011, asked at 1110 and 1111
-pub controller_restart_table : map (λ (f : Flags). controller_given (controller_from_flags f)) sixteen
+pub controller_restart_table : map (λ (f : Flags). given controller_number (controller_from_flags f)) sixteen
     ≡ (5 ∷ []) ∷ none ∷ none ∷ none ∷ (4 ∷ []) ∷ none ∷ none ∷ (3 ∷ []) ∷ (1 ∷ []) ∷ none ∷ (1 ∷ []) ∷ (1 ∷ []) ∷ none
     ∷ none ∷ (2 ∷ []) ∷ (2 ∷ []) ∷ []
 controller_restart_table = refl

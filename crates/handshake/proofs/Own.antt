@@ -9,10 +9,9 @@ use Rattle.mmbi.specs.declared.interface.Flags.{Flags}
 use Rattle.mmbi.specs.Interface.{all_clear}
 use Rattle.handshake.specs.declared.host.HostPhase.{HostPhase}
 use Rattle.handshake.specs.declared.host.HostPhase.TheVariants as host
-use Rattle.handshake.specs.declared.host.HostStep.{HostStep}
 use Rattle.handshake.specs.declared.controller.ControllerPhase.{ControllerPhase}
 use Rattle.handshake.specs.declared.controller.ControllerPhase.TheVariants as controller
-use Rattle.handshake.specs.declared.controller.ControllerStep.{ControllerStep}
+use Rattle.handshake.specs.declared.phase.Step.{Step}
 use Rattle.handshake.specs.Order.{KeepsController, KeepsHost, clears_host}
 use Rattle.handshake.specs.Steps.{host_sees, host_does, host_waits, host_step}
 use Rattle.handshake.specs.Steps.{controller_sees, controller_does, controller_waits, controller_step}
@@ -25,7 +24,7 @@ host_does_lem host.Waiting f = (refl, refl)
 pub host_writes_its_own : (phase : HostPhase) (seen : Flags) → KeepsController (host_step phase seen).change
 unfolding host_step
 host_writes_its_own phase seen =
-    pick_elim (λ (s : HostStep). KeepsController s.change) (host_sees phase seen) (host_does phase) (host_waits phase)
+    pick_elim (λ (s : Step HostPhase). KeepsController s.change) (host_sees phase seen) (host_does phase) (host_waits phase)
     (λ (e : _). host_does_lem phase) (λ (e : _) (f : Flags). (refl, refl))
 
 controller_does_lem : (phase : ControllerPhase) (seen : Flags) → controller_sees phase seen ≡ true
@@ -41,7 +40,7 @@ pub controller_writes_its_own : (phase : ControllerPhase) (seen : Flags) → cle
     → KeepsHost (controller_step phase seen).change
 unfolding controller_step
 controller_writes_its_own phase seen n =
-    pick_elim (λ (s : ControllerStep). KeepsHost s.change) (controller_sees phase seen) (controller_does phase)
+    pick_elim (λ (s : Step ControllerPhase). KeepsHost s.change) (controller_sees phase seen) (controller_does phase)
     (controller_waits phase) (λ (e : _). controller_does_lem phase seen e n) (λ (e : _) (f : Flags). (refl, refl))
 
 -- and there it clears both

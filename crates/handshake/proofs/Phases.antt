@@ -7,21 +7,18 @@ use mathlib.Core.List.{List, [], ◌∷◌}
 use Prim.Native.Nat.{ℕ, zero, suc}
 use native.Mathlib.Omega.{arith}
 use lib.ListN.{get_or}
+use Rattle.std.specs.Prelude.{Result, Ok, Err}
 use Rattle.octets.proofs.Choice.{both}
 use Rattle.mctp.specs.declared.refusal.Refusal.{Refusal}
 use Rattle.mctp.specs.Refusals.{number_of}
 use Rattle.mctp.proofs.Refusals.{number_injective, number_positive}
 use Rattle.handshake.specs.declared.host.HostPhase.{HostPhase}
 use Rattle.handshake.specs.declared.host.HostPhase.TheVariants as host
-use Rattle.handshake.specs.declared.host.StoredHostPhase.{StoredHostPhase}
-use Rattle.handshake.specs.declared.host.StoredHostPhase.TheVariants as host-stored
 use Rattle.handshake.specs.declared.controller.ControllerPhase.{ControllerPhase}
 use Rattle.handshake.specs.declared.controller.ControllerPhase.TheVariants as controller
-use Rattle.handshake.specs.declared.controller.StoredControllerPhase.{StoredControllerPhase}
-use Rattle.handshake.specs.declared.controller.StoredControllerPhase.TheVariants as controller-stored
 use Rattle.handshake.specs.Phases.{host_number, host_phases, controller_number, controller_phases}
-use Rattle.handshake.specs.Phases.{stored_refusal, stored_number, host_refusal, host_stored, controller_refusal}
-use Rattle.handshake.specs.Phases.{controller_stored}
+use Rattle.handshake.specs.Phases.{stored_refusal, stored_number, refusal_in, stored_in, host_refusal, host_stored}
+use Rattle.handshake.specs.Phases.{controller_refusal, controller_stored}
 
 -- the phases in the order of their numbers
 abbrev pub hosts : List HostPhase
@@ -91,22 +88,20 @@ not_good : (r : Refusal) → 0 ≡ number_of r → ⊥
 not_good r e = omega (arith, number_positive r)
 
 -- two answers with the same numbers are one answer
-pub host_stored_equal : (a b : StoredHostPhase) → host_refusal a ≡ host_refusal b → host_stored a ≡ host_stored b
-    → a ≡ b
-host_stored_equal (host-stored.Phase p) (host-stored.Phase q) e n = ap host-stored.Phase (host_injective p q n)
-host_stored_equal (host-stored.Phase p) (host-stored.Refused r) e n = absurd (not_good r e)
-host_stored_equal (host-stored.Refused r) (host-stored.Phase q) e n = absurd (not_good r (sym e))
-host_stored_equal (host-stored.Refused r) (host-stored.Refused s) e n =
-    ap host-stored.Refused (number_injective r s e)
+stored_equal : {P : Type 0} (number : P → ℕ) → ((p q : P) → number p ≡ number q → p ≡ q) → (a b : Result P Refusal)
+    → refusal_in a ≡ refusal_in b → stored_in number a ≡ stored_in number b → a ≡ b
+stored_equal number injective (Ok p) (Ok q) e n = ap Ok (injective p q n)
+stored_equal number injective (Ok p) (Err r) e n = absurd (not_good r e)
+stored_equal number injective (Err r) (Ok q) e n = absurd (not_good r (sym e))
+stored_equal number injective (Err r) (Err s) e n = ap Err (number_injective r s e)
 
-pub controller_stored_equal : (a b : StoredControllerPhase) → controller_refusal a ≡ controller_refusal b
+pub host_stored_equal : (a b : Result HostPhase Refusal) → host_refusal a ≡ host_refusal b
+    → host_stored a ≡ host_stored b → a ≡ b
+host_stored_equal = stored_equal host_number host_injective
+
+pub controller_stored_equal : (a b : Result ControllerPhase Refusal) → controller_refusal a ≡ controller_refusal b
     → controller_stored a ≡ controller_stored b → a ≡ b
-controller_stored_equal (controller-stored.Phase p) (controller-stored.Phase q) e n =
-    ap controller-stored.Phase (controller_injective p q n)
-controller_stored_equal (controller-stored.Phase p) (controller-stored.Refused r) e n = absurd (not_good r e)
-controller_stored_equal (controller-stored.Refused r) (controller-stored.Phase q) e n = absurd (not_good r (sym e))
-controller_stored_equal (controller-stored.Refused r) (controller-stored.Refused s) e n =
-    ap controller-stored.Refused (number_injective r s e)
+controller_stored_equal = stored_equal controller_number controller_injective
 
 -- a phase that is stored reads back
 pub host_stored_back : (p : HostPhase)

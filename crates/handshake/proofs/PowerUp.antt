@@ -7,16 +7,14 @@ use mathlib.Core.List.{List, [], ◌∷◌, map}
 use Prim.Native.Nat.{ℕ, ◌*◌, ◌≤◌}
 use native.Mathlib.Omega.{arith}
 use lib.ListN.{length}
+use Rattle.std.specs.Prelude.{Result, Ok, Some}
 use Rattle.octets.proofs.Choice.{both, beq_true, implies, implied}
+use Rattle.mctp.specs.declared.refusal.Refusal.{Refusal}
 use Rattle.mmbi.specs.Interface.{same_flags, normal_runtime, all_clear, completed}
+use Rattle.handshake.specs.declared.controller.ControllerPhase.{ControllerPhase}
 use Rattle.handshake.specs.declared.controller.ControllerPhase.TheVariants as controller
-use Rattle.handshake.specs.declared.controller.RestartedController.TheVariants as controller-restarted
-use Rattle.handshake.specs.declared.controller.StoredControllerPhase.{StoredControllerPhase}
-use Rattle.handshake.specs.declared.controller.StoredControllerPhase.TheVariants as controller-stored
+use Rattle.handshake.specs.declared.host.HostPhase.{HostPhase}
 use Rattle.handshake.specs.declared.host.HostPhase.TheVariants as host
-use Rattle.handshake.specs.declared.host.RestartedHost.TheVariants as host-restarted
-use Rattle.handshake.specs.declared.host.StoredHostPhase.{StoredHostPhase}
-use Rattle.handshake.specs.declared.host.StoredHostPhase.TheVariants as host-stored
 use Rattle.handshake.specs.Back.{in_turn, steps_back, Fair, BackWithin}
 use Rattle.handshake.specs.Phases.{host_is, host_phases, controller_is, controller_phases, stored_refusal}
 use Rattle.handshake.specs.Phases.{stored_number, host_refusal, host_stored, controller_refusal, controller_stored}
@@ -46,20 +44,20 @@ back_from_power_up k order fair long =
 
 -- a power-up is a restart that finds all flags clear
 pub power_up_by_flags :
-    (host_from_flags all_clear ≡ host-restarted.Phase host_at_power_up)
-    × (controller_from_flags all_clear ≡ controller-restarted.Phase controller_at_power_up)
+    (host_from_flags all_clear ≡ Some host_at_power_up)
+    × (controller_from_flags all_clear ≡ Some controller_at_power_up)
 power_up_by_flags = (refl, refl)
 
 -- the number 0 reads as phase running: what `of_number` promises of 0 leaves no other answer
 pub zeroed_reads_as_running :
-    ((r : StoredHostPhase) → host_refusal r ≡ stored_refusal host_phases 0 → host_stored r ≡ stored_number host_phases 0
-    → r ≡ host-stored.Phase host.Running)
-    × ((r : StoredControllerPhase) → controller_refusal r ≡ stored_refusal controller_phases 0
+    ((r : Result HostPhase Refusal) → host_refusal r ≡ stored_refusal host_phases 0 → host_stored r ≡ stored_number host_phases 0
+    → r ≡ Ok host.Running)
+    × ((r : Result ControllerPhase Refusal) → controller_refusal r ≡ stored_refusal controller_phases 0
     → controller_stored r ≡ stored_number controller_phases 0
-    → r ≡ controller-stored.Phase controller.Running)
+    → r ≡ Ok controller.Running)
 zeroed_reads_as_running = (
-  (λ r e n. host_stored_equal r (host-stored.Phase host.Running) e n),
-  (λ r e n. controller_stored_equal r (controller-stored.Phase controller.Running) e n),
+  (λ r e n. host_stored_equal r (Ok host.Running) e n),
+  (λ r e n. controller_stored_equal r (Ok controller.Running) e n),
 )
 
 -- all flags clear, with the phase of both ends out of zeroed storage, or of one of them

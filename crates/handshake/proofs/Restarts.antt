@@ -6,18 +6,15 @@ use mathlib.Core.Bool.{Bool, beq, true, false, ◌&&◌}
 use mathlib.Core.List.{List, [], ◌∷◌, ◌++◌}
 use Prim.Native.Nat.{ℕ, ◌*◌, ◌≤◌}
 use lib.ListN.{length}
+use Rattle.std.specs.Prelude.{Option, Some, None}
 use Rattle.octets.proofs.Choice.{both, beq_true, implies, implied, implied_not}
 use Rattle.mmbi.specs.declared.interface.Flags.{Flags}
 use Rattle.mmbi.specs.Interface.{normal_runtime}
 use Rattle.mmbi.proofs.States.{every_flags, every_flags_lem}
 use Rattle.handshake.specs.declared.controller.ControllerPhase.{ControllerPhase}
 use Rattle.handshake.specs.declared.controller.ControllerPhase.TheVariants as controller
-use Rattle.handshake.specs.declared.controller.RestartedController.{RestartedController}
-use Rattle.handshake.specs.declared.controller.RestartedController.TheVariants as controller-restarted
 use Rattle.handshake.specs.declared.host.HostPhase.{HostPhase}
 use Rattle.handshake.specs.declared.host.HostPhase.TheVariants as host
-use Rattle.handshake.specs.declared.host.RestartedHost.{RestartedHost}
-use Rattle.handshake.specs.declared.host.RestartedHost.TheVariants as host-restarted
 use Rattle.handshake.specs.Back.{host_asks, controller_asks, asking, in_turn, stated_steps, trace, Fair, BackWithin}
 use Rattle.handshake.specs.Order.{host_order, controller_order, among}
 use Rattle.handshake.specs.Phases.{host_is, controller_is}
@@ -80,13 +77,13 @@ pub restarted_by_flags : (e : Ends) → has_row e.flags ≡ true
 restarted_by_flags e h = (rw h, rw h)
 
 -- no restart gives phase running: a restarted end asks for a reset, or goes on with the one that is under way
-abbrev host_runs : RestartedHost → Bool
-host_runs (host-restarted.Phase phase) = host_is phase host.Running
-host_runs host-restarted.NoPhase = false
+abbrev host_runs : Option HostPhase → Bool
+host_runs (Some phase) = host_is phase host.Running
+host_runs None = false
 
-abbrev controller_runs : RestartedController → Bool
-controller_runs (controller-restarted.Phase phase) = controller_is phase controller.Running
-controller_runs controller-restarted.NoPhase = false
+abbrev controller_runs : Option ControllerPhase → Bool
+controller_runs (Some phase) = controller_is phase controller.Running
+controller_runs None = false
 
 pub none_restarts_running : (f : Flags)
     → (host_runs (host_from_flags f) ≡ false) × (controller_runs (controller_from_flags f) ≡ false)

@@ -1,16 +1,13 @@
 -- The phases of both ends: the numbers under which they are stored, and what an ask does to them (document 02, #105).
 -- Assumes nothing.
-use Rattle.std.specs.Prelude.{ℕ, Bool, ltb, eqb}
+use Rattle.std.specs.Prelude.{ℕ, Bool, ltb, eqb, Result, Ok, Err}
 use Rattle.octets.specs.Choice.{pick}
+use Rattle.mctp.specs.declared.refusal.Refusal.{Refusal}
 use Rattle.mctp.specs.Refusals.{number_of}
 use Rattle.handshake.specs.declared.host.HostPhase.{HostPhase}
 use Rattle.handshake.specs.declared.host.HostPhase.TheVariants as host
-use Rattle.handshake.specs.declared.host.StoredHostPhase.{StoredHostPhase}
-use Rattle.handshake.specs.declared.host.StoredHostPhase.TheVariants as host-stored
 use Rattle.handshake.specs.declared.controller.ControllerPhase.{ControllerPhase}
 use Rattle.handshake.specs.declared.controller.ControllerPhase.TheVariants as controller
-use Rattle.handshake.specs.declared.controller.StoredControllerPhase.{StoredControllerPhase}
-use Rattle.handshake.specs.declared.controller.StoredControllerPhase.TheVariants as controller-stored
 
 -- the host's three phases, counted from 0
 abbrev pub host_number : HostPhase → ℕ
@@ -49,23 +46,27 @@ stored_refusal phases n = pick (ltb n phases) 0 1
 abbrev pub stored_number : (phases n : ℕ) → ℕ
 stored_number phases n = pick (ltb n phases) n 0
 
--- each case of `StoredHostPhase`: its refusal's number, 0 where good, and its phase's, 0 where refused
-abbrev pub host_refusal : StoredHostPhase → ℕ
-host_refusal (host-stored.Phase phase) = 0
-host_refusal (host-stored.Refused refusal) = number_of refusal
+-- each case of what a number gives out of stored state: its refusal's number, 0 where good, and its phase's, 0 where
+-- refused
+abbrev pub refusal_in : {P : Type 0} → Result P Refusal → ℕ
+refusal_in (Ok phase) = 0
+refusal_in (Err refusal) = number_of refusal
 
-abbrev pub host_stored : StoredHostPhase → ℕ
-host_stored (host-stored.Phase phase) = host_number phase
-host_stored (host-stored.Refused refusal) = 0
+abbrev pub stored_in : {P : Type 0} → (P → ℕ) → Result P Refusal → ℕ
+stored_in number (Ok phase) = number phase
+stored_in number (Err refusal) = 0
 
--- and of `StoredControllerPhase`
-abbrev pub controller_refusal : StoredControllerPhase → ℕ
-controller_refusal (controller-stored.Phase phase) = 0
-controller_refusal (controller-stored.Refused refusal) = number_of refusal
+abbrev pub host_refusal : Result HostPhase Refusal → ℕ
+host_refusal = refusal_in
 
-abbrev pub controller_stored : StoredControllerPhase → ℕ
-controller_stored (controller-stored.Phase phase) = controller_number phase
-controller_stored (controller-stored.Refused refusal) = 0
+abbrev pub host_stored : Result HostPhase Refusal → ℕ
+host_stored = stored_in host_number
+
+abbrev pub controller_refusal : Result ControllerPhase Refusal → ℕ
+controller_refusal = refusal_in
+
+abbrev pub controller_stored : Result ControllerPhase Refusal → ℕ
+controller_stored = stored_in controller_number
 
 -- "with one end asking": an ask is taken in phase running alone, so that none comes on top of a reset
 abbrev pub host_asked : HostPhase → HostPhase

@@ -6,10 +6,9 @@ use Rattle.mmbi.specs.Changes.{changed_flags}
 use Rattle.mmbi.specs.Interface.{normal_runtime}
 use Rattle.handshake.specs.declared.host.HostPhase.{HostPhase}
 use Rattle.handshake.specs.declared.host.HostPhase.TheVariants as host
-use Rattle.handshake.specs.declared.host.HostStep.{HostStep}
 use Rattle.handshake.specs.declared.controller.ControllerPhase.{ControllerPhase}
 use Rattle.handshake.specs.declared.controller.ControllerPhase.TheVariants as controller
-use Rattle.handshake.specs.declared.controller.ControllerStep.{ControllerStep}
+use Rattle.handshake.specs.declared.phase.Step.{Step}
 use Rattle.handshake.specs.Phases.{host_asked, controller_asked}
 use Rattle.handshake.specs.Steps.{host_step, controller_step}
 
@@ -24,11 +23,11 @@ pub data End : Type 0 where
   the_controller : End
 
 -- what an end's step leaves: the flags are changed as it says
-abbrev pub host_leaves : HostStep → Ends → Ends
+abbrev pub host_leaves : Step HostPhase → Ends → Ends
 host_leaves said e =
     record { flags = changed_flags said.change e.flags; host = said.next; controller = e.controller }
 
-abbrev pub controller_leaves : ControllerStep → Ends → Ends
+abbrev pub controller_leaves : Step ControllerPhase → Ends → Ends
 controller_leaves said e =
     record { flags = changed_flags said.change e.flags; host = e.host; controller = said.next }
 

@@ -1,6 +1,6 @@
 -- The phase that an end starts in: after power-up, and where it restarts alone with the interface as it was.
 -- Assumes nothing.
-use Rattle.std.specs.Prelude.{Bool, ◌||◌, List, [], ◌∷◌}
+use Rattle.std.specs.Prelude.{Bool, ◌||◌, List, [], ◌∷◌, Option, Some, None}
 use Rattle.octets.specs.Choice.{pick}
 use Rattle.mmbi.specs.declared.interface.Flags.{Flags}
 use Rattle.mmbi.specs.Interface.{same_flags, normal_runtime, asked_by_host, asked_by_controller, acknowledged}
@@ -8,12 +8,8 @@ use Rattle.mmbi.specs.Interface.{transitioning}
 use Rattle.mmbi.specs.Interface.{host_cleared, all_clear, completed}
 use Rattle.handshake.specs.declared.controller.ControllerPhase.{ControllerPhase}
 use Rattle.handshake.specs.declared.controller.ControllerPhase.TheVariants as controller
-use Rattle.handshake.specs.declared.controller.RestartedController.{RestartedController}
-use Rattle.handshake.specs.declared.controller.RestartedController.TheVariants as controller-restarted
 use Rattle.handshake.specs.declared.host.HostPhase.{HostPhase}
 use Rattle.handshake.specs.declared.host.HostPhase.TheVariants as host
-use Rattle.handshake.specs.declared.host.RestartedHost.{RestartedHost}
-use Rattle.handshake.specs.declared.host.RestartedHost.TheVariants as host-restarted
 use Rattle.handshake.specs.Runs.{Ends, End, the_host, the_controller, Move, moved}
 
 -- Table 5, 0000: "The (B)MC is initializing the data structures. The host can only monitor the data structures, waiting
@@ -54,22 +50,21 @@ controller_by f =
 
 -- the other eight give no phase: in them Table 5 lets an end "stop using MMBI and report a fatal error", 8.1.1 has it
 -- that "the (B)MC may consider the interface as inoperable", and "attempts to repair .. are system-dependent"
-abbrev pub host_from_flags : Flags → RestartedHost
-host_from_flags f = pick (has_row f) (host-restarted.Phase (host_by f)) host-restarted.NoPhase
+abbrev pub host_from_flags : Flags → Option HostPhase
+host_from_flags f = pick (has_row f) (Some (host_by f)) None
 
-abbrev pub controller_from_flags : Flags → RestartedController
-controller_from_flags f =
-    pick (has_row f) (controller-restarted.Phase (controller_by f)) controller-restarted.NoPhase
+abbrev pub controller_from_flags : Flags → Option ControllerPhase
+controller_from_flags f = pick (has_row f) (Some (controller_by f)) None
 
 -- what an end's restart makes of both: its own phase is new, the flags and the other end are as they were. Where it is
 -- given no phase nothing is said of what it does; it is left as it was
-abbrev pub host_starts : RestartedHost → Ends → Ends
-host_starts (host-restarted.Phase phase) e = record { flags = e.flags; host = phase; controller = e.controller }
-host_starts host-restarted.NoPhase e = e
+abbrev pub host_starts : Option HostPhase → Ends → Ends
+host_starts (Some phase) e = record { flags = e.flags; host = phase; controller = e.controller }
+host_starts None e = e
 
-abbrev pub controller_starts : RestartedController → Ends → Ends
-controller_starts (controller-restarted.Phase phase) e = record { flags = e.flags; host = e.host; controller = phase }
-controller_starts controller-restarted.NoPhase e = e
+abbrev pub controller_starts : Option ControllerPhase → Ends → Ends
+controller_starts (Some phase) e = record { flags = e.flags; host = e.host; controller = phase }
+controller_starts None e = e
 
 abbrev pub restarted : End → Ends → Ends
 restarted the_host e = host_starts (host_from_flags e.flags) e

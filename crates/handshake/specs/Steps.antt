@@ -11,17 +11,19 @@ use Rattle.mmbi.specs.Interface.{transitioning}
 use Rattle.mmbi.specs.Interface.{host_cleared, all_clear, completed}
 use Rattle.handshake.specs.declared.host.HostPhase.{HostPhase}
 use Rattle.handshake.specs.declared.host.HostPhase.TheVariants as host
-use Rattle.handshake.specs.declared.host.HostStep.{HostStep}
 use Rattle.handshake.specs.declared.controller.ControllerPhase.{ControllerPhase}
 use Rattle.handshake.specs.declared.controller.ControllerPhase.TheVariants as controller
-use Rattle.handshake.specs.declared.controller.ControllerStep.{ControllerStep}
+use Rattle.handshake.specs.declared.phase.Step.{Step}
 
 -- what a step says: which flags to change, and the phase once they are changed
-abbrev pub host_says : Change → HostPhase → HostStep
-host_says change next = record { change = change; next = next }
+abbrev says : {P : Type 0} → Change → P → Step P
+says change next = record { change = change; next = next }
 
-abbrev pub controller_says : Change → ControllerPhase → ControllerStep
-controller_says change next = record { change = change; next = next }
+abbrev pub host_says : Change → HostPhase → Step HostPhase
+host_says = says
+
+abbrev pub controller_says : Change → ControllerPhase → Step ControllerPhase
+controller_says = says
 
 -- what the host looks for in each phase
 abbrev pub host_sees : HostPhase → Flags → Bool
@@ -35,15 +37,15 @@ host_sees host.Asking f = same_flags f normal_runtime || same_flags f asked_by_c
 host_sees host.Waiting f = same_flags f completed
 
 -- and what it does then, the last by "3) The host transitions to the Normal Runtime state by setting H_UP = 1."
-abbrev pub host_does : HostPhase → HostStep
+abbrev pub host_does : HostPhase → Step HostPhase
 host_does host.Running = host_says (Host SetReset) host.Waiting
 host_does host.Asking = host_says (Host SetReset) host.Waiting
 host_does host.Waiting = host_says (Host SetUp) host.Running
 
-abbrev pub host_waits : HostPhase → HostStep
+abbrev pub host_waits : HostPhase → Step HostPhase
 host_waits phase = host_says Nothing phase
 
-unfoldable pub host_step : HostPhase → Flags → HostStep
+unfoldable pub host_step : HostPhase → Flags → Step HostPhase
 host_step phase f = pick (host_sees phase f) (host_does phase) (host_waits phase)
 
 -- what the controller looks for in each phase
@@ -62,7 +64,7 @@ controller_sees controller.Initializing f = same_flags f all_clear
 -- and what it does then: "3) The (B)MC clears the B_UP flag (B_RST still set). .. 4) The (B)MC clears the H_UP and
 -- H_RST flags .. 5) The (B)MC clears the B_RST flag. 6) The (B)MC reinitializes all the data structures. 7) The (B)MC
 -- sets B_UP = 1."
-abbrev pub controller_does : ControllerPhase → ControllerStep
+abbrev pub controller_does : ControllerPhase → Step ControllerPhase
 controller_does controller.Running = controller_says (Controller SetReset) controller.Asked
 controller_does controller.Asking = controller_says (Controller SetReset) controller.Asked
 controller_does controller.Asked = controller_says (Controller ClearUp) controller.Down
@@ -70,8 +72,8 @@ controller_does controller.Down = controller_says (Host ClearBoth) controller.Cl
 controller_does controller.Cleared = controller_says (Controller ClearReset) controller.Initializing
 controller_does controller.Initializing = controller_says (Controller SetUp) controller.Running
 
-abbrev pub controller_waits : ControllerPhase → ControllerStep
+abbrev pub controller_waits : ControllerPhase → Step ControllerPhase
 controller_waits phase = controller_says Nothing phase
 
-unfoldable pub controller_step : ControllerPhase → Flags → ControllerStep
+unfoldable pub controller_step : ControllerPhase → Flags → Step ControllerPhase
 controller_step phase f = pick (controller_sees phase f) (controller_does phase) (controller_waits phase)

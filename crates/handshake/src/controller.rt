@@ -1,16 +1,14 @@
 // The controller's end of the reset handshake (003, 8.1.2.2 and Table 5).
-ghost use Rattle.std.specs.Prelude.{◌≡◌};
-ghost use Rattle.handshake.specs.Phases.{controller_number, controller_refusal, controller_stored, controller_asked};
-ghost use Rattle.handshake.specs.Phases.{controller_phases, stored_refusal, stored_number};
-ghost use Rattle.handshake.specs.Starts.{controller_by, controller_from_flags, controller_at_power_up};
-ghost use Rattle.handshake.specs.Steps.{controller_says, controller_sees, controller_does, controller_step};
+ghost use Rattle.handshake.specs.Phases.{controller_phases, controller_number, controller_asked};
+ghost use Rattle.handshake.specs.Starts.{controller_at_power_up, controller_from_flags};
+ghost use Rattle.handshake.specs.Steps.{controller_step};
 
-use crate::row;
+use crate::phase::{Phase, Step};
 use mctp::Refusal;
 use mmbi::{Act, Change, Flags};
 
 // Where the controller stands.
-#[derive(Clone, Copy)]
+#[derive(Clone, Copy, PartialEq, Eq)]
 pub enum ControllerPhase {
     // It asks for nothing.
     Running,
@@ -26,169 +24,82 @@ pub enum ControllerPhase {
     Initializing,
 }
 
-// What a step says: which flags to change, and the phase once they are changed.
-#[derive(Clone, Copy)]
-pub struct ControllerStep {
-    pub change: Change,
-    pub next: ControllerPhase,
-}
+impl Phase for ControllerPhase {
+    ghost phases = { controller_phases };
 
-// A phase out of stored state: 1 for a number that is none.
-#[derive(Clone, Copy)]
-pub enum StoredControllerPhase {
-    Phase(ControllerPhase),
-    Refused(Refusal),
-}
+    ghost number_of = { controller_number };
 
-// The phase in which a controller starts that restarted alone: none where the flags are such as no graceful reset
-// passes.
-#[derive(Clone, Copy)]
-pub enum RestartedController {
-    Phase(ControllerPhase),
-    NoPhase,
-}
+    ghost step_at = { controller_step };
 
-impl ControllerPhase {
-    // Acts where the flags are in order for this phase; else it waits.
-    pub fn step(self, flags: Flags) -> ControllerStep
-        ensures { result ≡ controller_step self flags }
-    {
-        if self.sees(flags) {
-            self.does()
-        } else {
-            says(Change::Nothing, self)
-        }
-    }
+    ghost asked = { controller_asked };
 
-    // An ask is taken in phase running alone: one that came on top of a reset would never be answered.
-    pub fn ask(self) -> ControllerPhase
-        ensures { result ≡ controller_asked self }
-    {
-        match self {
-            ControllerPhase::Running => ControllerPhase::Asking,
-            ControllerPhase::Asking => ControllerPhase::Asking,
-            ControllerPhase::Asked => ControllerPhase::Asked,
-            ControllerPhase::Down => ControllerPhase::Down,
-            ControllerPhase::Cleared => ControllerPhase::Cleared,
-            ControllerPhase::Initializing => ControllerPhase::Initializing,
-        }
-    }
+    ghost at_first = { controller_at_power_up };
 
-    // The number under which a phase is stored.
-    pub fn number(self) -> u8
-        ensures { result ≡ controller_number self }
-    {
-        match self {
-            ControllerPhase::Running => 0,
-            ControllerPhase::Asking => 1,
-            ControllerPhase::Asked => 2,
-            ControllerPhase::Down => 3,
-            ControllerPhase::Cleared => 4,
-            ControllerPhase::Initializing => 5,
-        }
-    }
+    ghost by_flags = { controller_from_flags };
 
-    // The phase that is stored under a number.
-    pub fn of_number(n: u8) -> StoredControllerPhase
-        ensures number { controller_refusal result ≡ stored_refusal controller_phases n }
-        ensures phase { controller_stored result ≡ stored_number controller_phases n }
-    {
-        match n {
-            0 => StoredControllerPhase::Phase(ControllerPhase::Running),
-            1 => StoredControllerPhase::Phase(ControllerPhase::Asking),
-            2 => StoredControllerPhase::Phase(ControllerPhase::Asked),
-            3 => StoredControllerPhase::Phase(ControllerPhase::Down),
-            4 => StoredControllerPhase::Phase(ControllerPhase::Cleared),
-            5 => StoredControllerPhase::Phase(ControllerPhase::Initializing),
-            _ => StoredControllerPhase::Refused(Refusal::Setup),
-        }
-    }
-
-    // The phase to start in after power-up. Zeroed storage is another one, running, in which nothing comes up.
-    pub fn at_power_up() -> ControllerPhase
-        ensures { result ≡ controller_at_power_up }
-    {
-        ControllerPhase::Initializing
-    }
-
-    // The phase to start in where the controller restarted alone, with the interface as it was.
-    pub fn from_flags(flags: Flags) -> RestartedController
-        ensures { result ≡ controller_from_flags flags }
-    {
-        if row::has_row(flags) {
-            RestartedController::Phase(by_flags(flags))
-        } else {
-            RestartedController::NoPhase
-        }
-    }
-
-    // Whether this phase acts on these flags.
-    fn sees(self, flags: Flags) -> bool
-        ensures { result ≡ controller_sees self flags }
-    {
-        match self {
-            ControllerPhase::Running => mmbi::same_flags(flags, Flags::ASKED_BY_HOST),
-            ControllerPhase::Asking => {
-                mmbi::same_flags(flags, Flags::NORMAL_RUNTIME)
-                    | mmbi::same_flags(flags, Flags::ASKED_BY_HOST)
+    #[tactic(auto, unfolding(crate::specs::Steps::controller_step))]
+    fn step(self, flags: Flags) -> Step<ControllerPhase> {
+        let (change, next) = match (self, flags) {
+            (ControllerPhase::Running, Flags::ASKED_BY_HOST)
+            | (ControllerPhase::Asking, Flags::NORMAL_RUNTIME | Flags::ASKED_BY_HOST) => {
+                (Change::Controller(Act::SetReset), ControllerPhase::Asked)
             }
-            ControllerPhase::Asked => mmbi::same_flags(flags, Flags::ACKNOWLEDGED),
-            ControllerPhase::Down => mmbi::same_flags(flags, Flags::TRANSITIONING),
-            ControllerPhase::Cleared => mmbi::same_flags(flags, Flags::HOST_CLEARED),
-            ControllerPhase::Initializing => mmbi::same_flags(flags, Flags::ALL_CLEAR),
-        }
-    }
-
-    // What it then does.
-    fn does(self) -> ControllerStep
-        ensures { result ≡ controller_does self }
-    {
-        match self {
-            ControllerPhase::Running => says(
-                Change::Controller(Act::SetReset),
-                ControllerPhase::Asked,
-            ),
-            ControllerPhase::Asking => says(
-                Change::Controller(Act::SetReset),
-                ControllerPhase::Asked,
-            ),
-            ControllerPhase::Asked => says(Change::Controller(Act::ClearUp), ControllerPhase::Down),
-            ControllerPhase::Down => says(Change::Host(Act::ClearBoth), ControllerPhase::Cleared),
-            ControllerPhase::Cleared => says(
+            (ControllerPhase::Asked, Flags::ACKNOWLEDGED) => {
+                (Change::Controller(Act::ClearUp), ControllerPhase::Down)
+            }
+            (ControllerPhase::Down, Flags::TRANSITIONING) => {
+                (Change::Host(Act::ClearBoth), ControllerPhase::Cleared)
+            }
+            (ControllerPhase::Cleared, Flags::HOST_CLEARED) => (
                 Change::Controller(Act::ClearReset),
                 ControllerPhase::Initializing,
             ),
-            ControllerPhase::Initializing => says(
-                Change::Controller(Act::SetUp),
-                ControllerPhase::Running,
-            ),
+            (ControllerPhase::Initializing, Flags::ALL_CLEAR) => {
+                (Change::Controller(Act::SetUp), ControllerPhase::Running)
+            }
+            _ => (Change::Nothing, self),
+        };
+        Step { change, next }
+    }
+
+    fn ask(self) -> ControllerPhase {
+        match self {
+            ControllerPhase::Running => ControllerPhase::Asking,
+            other => other,
         }
     }
-}
 
-fn says(change: Change, next: ControllerPhase) -> ControllerStep
-    ensures { result ≡ controller_says change next }
-{
-    ControllerStep { change, next }
-}
+    fn number(self) -> u8 {
+        self as u8
+    }
 
-// It goes on where the flags tell that it was, and else asks anew.
-fn by_flags(flags: Flags) -> ControllerPhase
-    ensures { result ≡ controller_by flags }
-{
-    if mmbi::same_flags(flags, Flags::ASKED_BY_CONTROLLER)
-        | mmbi::same_flags(flags, Flags::ACKNOWLEDGED)
-    {
-        return ControllerPhase::Asked;
+    fn of_number(n: u8) -> Result<ControllerPhase, Refusal> {
+        match n {
+            0 => Ok(ControllerPhase::Running),
+            1 => Ok(ControllerPhase::Asking),
+            2 => Ok(ControllerPhase::Asked),
+            3 => Ok(ControllerPhase::Down),
+            4 => Ok(ControllerPhase::Cleared),
+            5 => Ok(ControllerPhase::Initializing),
+            _ => Err(Refusal::Setup),
+        }
     }
-    if mmbi::same_flags(flags, Flags::TRANSITIONING) {
-        return ControllerPhase::Down;
+
+    fn at_power_up() -> ControllerPhase {
+        ControllerPhase::Initializing
     }
-    if mmbi::same_flags(flags, Flags::HOST_CLEARED) {
-        return ControllerPhase::Cleared;
+
+    // It goes on where the flags tell that it was, and else asks anew.
+    fn from_flags(flags: Flags) -> Option<ControllerPhase> {
+        match flags {
+            Flags::ASKED_BY_CONTROLLER | Flags::ACKNOWLEDGED => Some(ControllerPhase::Asked),
+            Flags::TRANSITIONING => Some(ControllerPhase::Down),
+            Flags::HOST_CLEARED => Some(ControllerPhase::Cleared),
+            Flags::ALL_CLEAR => Some(ControllerPhase::Initializing),
+            Flags::NORMAL_RUNTIME | Flags::ASKED_BY_HOST | Flags::COMPLETED => {
+                Some(ControllerPhase::Asking)
+            }
+            _ => None,
+        }
     }
-    if mmbi::same_flags(flags, Flags::ALL_CLEAR) {
-        return ControllerPhase::Initializing;
-    }
-    ControllerPhase::Asking
 }

@@ -4,7 +4,8 @@
 
 mod controller;
 mod host;
-mod row;
+mod phase;
 
-pub use controller::{ControllerPhase, ControllerStep, RestartedController, StoredControllerPhase};
-pub use host::{HostPhase, HostStep, RestartedHost, StoredHostPhase};
+pub use controller::ControllerPhase;
+pub use host::HostPhase;
+pub use phase::{Phase, Step};
