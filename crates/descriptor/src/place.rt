@@ -17,14 +17,14 @@ impl Place {
         self.offset as usize + self.length as usize
     }
 
-    pub fn lies_in(self, window: usize) -> bool
+    pub(crate) fn lies_in(self, window: usize) -> bool
         ensures { result ≡ lies_in window self }
     {
         self.end() <= window
     }
 
     // Whether two places overlap nowhere.
-    pub fn is_apart(self, other: Place) -> bool
+    pub(crate) fn is_apart(self, other: Place) -> bool
         ensures { result ≡ apart self other }
     {
         self.end() <= other.offset as usize || other.end() <= self.offset as usize

@@ -6,6 +6,7 @@ ghost use Rattle.descriptor.specs.Reading.{described_in, described_of};
 use crate::configuration::Configuration;
 use crate::place::Place;
 use mctp::Refusal;
+use octets::HighFirst;
 
 // A configuration that the window can have.
 #[tactic(auto, unfolding(crate::specs::Reading::described_of))]
@@ -46,7 +47,7 @@ fn type_right(window: &[u8]) -> bool
 fn base_at(window: &[u8], at: usize) -> u32
     ensures { result ≡ base_at window.now at }
 {
-    octets::word_high_first(window, at) % 536870912 * 8
+    octets::word_at::<HighFirst>(window, at) % 536870912 * 8
 }
 
 #[tactic(auto, unfolding(crate::specs::Reading::configuration_in))]
@@ -56,11 +57,11 @@ fn configuration_in(window: &[u8]) -> Configuration
     Configuration {
         b2h: Place {
             offset: base_at(window, 8),
-            length: octets::word_high_first(window, 16),
+            length: octets::word_at::<HighFirst>(window, 16),
         },
         h2b: Place {
             offset: base_at(window, 12),
-            length: octets::word_high_first(window, 20),
+            length: octets::word_at::<HighFirst>(window, 20),
         },
         ros: base_at(window, 32),
         rws: base_at(window, 36),

@@ -9,6 +9,7 @@ use crate::number::Pointed;
 use crate::{number, round};
 use mctp::Refusal;
 use mmbi::{Flags, Pointers};
+use octets::HighFirst;
 
 // What a ring holds at its read pointer.
 #[derive(Clone, Copy)]
@@ -93,7 +94,7 @@ fn find(
     if at.read == at.write {
         return Ok(Found::Empty);
     }
-    judge(most, at, octets::word_high_first(ring, at.read))
+    judge(most, at, octets::word_at::<HighFirst>(ring, at.read))
 }
 
 // What the header of a packet at the read pointer says.

@@ -10,6 +10,7 @@ use crate::number::Pointed;
 use crate::{number, round};
 use mctp::Refusal;
 use mmbi::{Flags, Pointers};
+use octets::HighFirst;
 
 // A packet put into the ring at the write pointer, which then stands at the answer; 11 unless the interface is in
 // normal runtime.
@@ -102,7 +103,7 @@ fn fill(ring: &mut [u8], write: usize, header: &[u8], body: &[u8])
     let size = header.len() + body.len();
     let padding = padding_for(size);
     let lent = ring.len();
-    octets::lay_high_first(ring, write, header_for(size));
+    octets::lay_word::<HighFirst>(ring, write, header_for(size));
     round::copy_in(ring, number::next(lent, write, 4), header);
     round::copy_in(ring, number::next(lent, write, 4 + header.len()), body);
     let zeros = [0u8; 3];

@@ -82,5 +82,5 @@ pub returns : goal.returns
 returns c =
     steps c.args.ring.now c.args.write c.requires.1 c.args.header.now c.args.body.now c.requires.3
     c.header_for.ensures c.padding_for-padding.ensures c.next.ensures c.next-2.ensures
-    c.next-3.ensures c.lay_high_first.ensures c.copy_in.ensures c.copy_in-2.ensures
+    c.next-3.ensures c.lay_word.ensures c.copy_in.ensures c.copy_in-2.ensures
     c.copy_in-3.ensures
