@@ -3,29 +3,30 @@
 use mathlib.Core.Path.{◌≡◌, ap}
 use mathlib.Core.Bool.{Bool}
 use Prim.Native.Nat.{ℕ}
+use Rattle.std.specs.Prelude.{Result, Ok, Err}
 use contract.Lifetimes.{Lfts}
 use Rattle.octets.proofs.Choice.{determined}
 use Rattle.mctp.specs.Refusals.{number_of}
+use Rattle.mctp.specs.declared.refusal.Refusal.{Refusal}
 use Rattle.mctp.proofs.Refusals.{number_injective}
 use Rattle.descriptor.specs.Reading.{described_in}
-use Rattle.descriptor.specs.declared.reading.Configured.TheVariants.{Checked, Refused}
 use Rattle.descriptor.specs.declared.place.Place.{Place}
-use Rattle.descriptor.specs.declared.reading.Configured.{Configured}
+use Rattle.descriptor.specs.declared.configuration.Configuration.{Configuration}
 use Rattle.descriptor.proofs.reading.read_descriptor.Reads as read-descriptor
-use Rattle.descriptor.proofs.configuration.is_allowed.Reads as is-allowed
-use Rattle.descriptor.proofs.configuration.area_place.Reads as area-place
-use Rattle.descriptor.proofs.place.end.Reads as end
+use Rattle.descriptor.proofs.configuration.Configuration.is_allowed.Reads as is-allowed
+use Rattle.descriptor.proofs.configuration.Configuration.area_place.Reads as area-place
+use Rattle.descriptor.proofs.place.Place.end.Reads as end
 
 -- an answer is told by its number or its configuration
-described_injective : (a b : Configured) → described_in a ≡ described_in b → a ≡ b
-described_injective (Checked c) (Checked d) e = cc
-described_injective (Checked c) (Refused n) e = cc
-described_injective (Refused m) (Checked d) e = cc
-described_injective (Refused m) (Refused n) e =
+described_injective : (a b : Result Configuration Refusal) → described_in a ≡ described_in b → a ≡ b
+described_injective (Ok c) (Ok d) e = cc
+described_injective (Ok c) (Err n) e = cc
+described_injective (Err m) (Ok d) e = cc
+described_injective (Err m) (Err n) e =
     let same : number_of m ≡ number_of n = cc in
-    ap Refused (number_injective m n same)
+    ap Err (number_injective m n same)
 
-pub read_descriptor_determined : (κs : Lfts 1) (a : _) (r q : Configured) (e f : _)
+pub read_descriptor_determined : (κs : Lfts 1) (a : _) (r q : Result Configuration Refusal) (e f : _)
     → read-descriptor.Post κs a r e → read-descriptor.Post κs a q f → r ≡ q
 read_descriptor_determined κs a r q e f p o = described_injective r q (determined p o)
 

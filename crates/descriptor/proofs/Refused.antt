@@ -7,7 +7,7 @@ use Prim.Native.Nat.{ℕ}
 use lib.ListN.{take, set, replicate}
 use Rattle.octets.specs.Words.{word_at}
 use Rattle.mctp.specs.declared.refusal.Refusal.TheVariants.{Signature, Descriptor}
-use Rattle.descriptor.specs.declared.reading.Configured.TheVariants.{Checked, Refused}
+use Rattle.std.specs.Prelude.{Ok, Err}
 use Rattle.descriptor.specs.Configuration.{inside, clear, allowed}
 use Rattle.descriptor.specs.Reading.{signature_right, configuration_in, found, refused, described_in, described_of}
 use Rattle.descriptor.proofs.Literal.{window_image, image_configuration, numbered}
@@ -78,6 +78,6 @@ ten_by_length = refl
 
 -- the call's answers in document 01's numbers
 pub answers_described :
-    map described_in (Checked image_configuration ∷ Refused Signature ∷ Refused Descriptor ∷ [])
+    map described_in (Ok image_configuration ∷ Err Signature ∷ Err Descriptor ∷ [])
     ≡ found image_configuration ∷ refused 9 ∷ refused 10 ∷ []
 answers_described = refl

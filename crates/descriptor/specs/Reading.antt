@@ -1,14 +1,13 @@
 -- The descriptor at the window's front (003, Tables 1 and 2), and which ones are accepted (document 01). Fields are
 -- big endian (003, 4.2).
 -- Assumes nothing.
-use Rattle.std.specs.Prelude.{ℕ, ◌*◌, ◌%◌, Bool, ◌&&◌, List, [], ◌∷◌, eqb, leb, length, get_or}
+use Rattle.std.specs.Prelude.{ℕ, ◌*◌, ◌%◌, Bool, ◌&&◌, List, [], ◌∷◌, Result, Ok, Err, eqb, leb, length, get_or}
 use Rattle.octets.specs.Checks.{Check, ◌unless◌, first_failing}
 use Rattle.octets.specs.Words.{high_first, word_at}
 use Rattle.mctp.specs.Refusals.{number_of}
+use Rattle.mctp.specs.declared.refusal.Refusal.{Refusal}
 use Rattle.descriptor.specs.Configuration.{allowed}
 use Rattle.descriptor.specs.declared.configuration.Configuration.{Configuration}
-use Rattle.descriptor.specs.declared.reading.Configured.{Configured}
-use Rattle.descriptor.specs.declared.reading.Configured.TheVariants.{Checked, Refused}
 
 -- "signature `#MMBI$`", in ASCII 23 4D 4D 42 49 24
 unfoldable pub signature_right : List ℕ → Bool
@@ -49,9 +48,9 @@ pub data Described : Type 0 where
   refused : ℕ → Described
 
 -- each case of the answer, with its number or its value
-abbrev pub described_in : Configured → Described
-described_in (Checked c) = found c
-described_in (Refused why) = refused (number_of why)
+abbrev pub described_in : Result Configuration Refusal → Described
+described_in (Ok c) = found c
+described_in (Err why) = refused (number_of why)
 
 -- "Otherwise 9 for the signature or a window too short to hold the descriptor, else 10."
 abbrev pub read_order : List ℕ → List (Check Described)

@@ -3,7 +3,7 @@ ghost use Rattle.std.specs.Prelude.{◌≡◌};
 ghost use Rattle.descriptor.specs.Configuration.{structure_at, descriptor_place, area_place, inside, clear, on_units};
 ghost use Rattle.descriptor.specs.Configuration.{allowed};
 
-use crate::place::{Place, are_apart, lies_in};
+use crate::place::Place;
 
 // B2H and H2B are the rings from the controller to the host and back; `ros` and `rws` are the offsets of Host_ROS and
 // Host_RWS.
@@ -24,62 +24,68 @@ pub enum Area {
     Rws,
 }
 
-// Whether document 01's list lets this configuration be used in a window of this size.
-pub fn is_allowed(window: usize, c: Configuration) -> bool
-    ensures { result ≡ allowed window c }
-{
-    is_inside(window, c)
-        & are_apart(c.b2h, c.h2b)
-        & is_clear(c, c.b2h)
-        & is_clear(c, c.h2b)
-        & mmbi::length_right(c.b2h.length as usize)
-        & mmbi::length_right(c.h2b.length as usize)
-        & on_units(c)
-}
+// The descriptor's own place.
+const DESCRIPTOR: Place = Place {
+    offset: 0,
+    length: 64,
+};
 
-// Where this area lies by the configuration alone.
-pub fn area_place(c: Configuration, which: Area) -> Place
-    ensures { result ≡ area_place c which }
-{
-    match which {
-        Area::B2h => c.b2h,
-        Area::H2b => c.h2b,
-        Area::Ros => structure_at(c.ros),
-        Area::Rws => structure_at(c.rws),
+impl Configuration {
+    // Whether document 01's list lets this configuration be used in a window of this size.
+    #[tactic(auto, unfolding(crate::specs::Configuration::allowed))]
+    pub fn is_allowed(self, window: usize) -> bool
+        ensures { result ≡ allowed window self }
+    {
+        self.is_inside(window)
+            && self.b2h.is_apart(self.h2b)
+            && self.is_clear(self.b2h)
+            && self.is_clear(self.h2b)
+            && mmbi::length_right(self.b2h.length as usize)
+            && mmbi::length_right(self.h2b.length as usize)
+            && self.is_on_units()
     }
-}
 
-fn is_inside(window: usize, c: Configuration) -> bool
-    ensures { result ≡ inside window c }
-{
-    lies_in(window, descriptor())
-        & lies_in(window, c.b2h)
-        & lies_in(window, c.h2b)
-        & lies_in(window, structure_at(c.ros))
-        & lies_in(window, structure_at(c.rws))
-}
+    // Where this area lies by the configuration alone.
+    pub fn area_place(self, which: Area) -> Place
+        ensures { result ≡ area_place self which }
+    {
+        match which {
+            Area::B2h => self.b2h,
+            Area::H2b => self.h2b,
+            Area::Ros => structure_at(self.ros),
+            Area::Rws => structure_at(self.rws),
+        }
+    }
 
-fn is_clear(c: Configuration, ring: Place) -> bool
-    ensures { result ≡ clear c ring }
-{
-    are_apart(ring, descriptor())
-        & are_apart(ring, structure_at(c.ros))
-        & are_apart(ring, structure_at(c.rws))
-}
+    #[tactic(auto, unfolding(crate::specs::Configuration::inside))]
+    fn is_inside(self, window: usize) -> bool
+        ensures { result ≡ inside window self }
+    {
+        DESCRIPTOR.lies_in(window)
+            && self.b2h.lies_in(window)
+            && self.h2b.lies_in(window)
+            && structure_at(self.ros).lies_in(window)
+            && structure_at(self.rws).lies_in(window)
+    }
 
-// Whether every base is one that a descriptor can give.
-fn on_units(c: Configuration) -> bool
-    ensures { result ≡ on_units c }
-{
-    (c.b2h.offset % 8 == 0) & (c.h2b.offset % 8 == 0) & (c.ros % 8 == 0) & (c.rws % 8 == 0)
-}
+    // Whether this ring overlaps none of the descriptor and the structures.
+    #[tactic(auto, unfolding(crate::specs::Configuration::clear))]
+    fn is_clear(self, ring: Place) -> bool
+        ensures { result ≡ clear self ring }
+    {
+        ring.is_apart(DESCRIPTOR)
+            && ring.is_apart(structure_at(self.ros))
+            && ring.is_apart(structure_at(self.rws))
+    }
 
-fn descriptor() -> Place
-    ensures { result ≡ descriptor_place }
-{
-    Place {
-        offset: 0,
-        length: 64,
+    // Whether every base is one that a descriptor can give.
+    fn is_on_units(self) -> bool
+        ensures { result ≡ on_units self }
+    {
+        self.b2h.offset % 8 == 0
+            && self.h2b.offset % 8 == 0
+            && self.ros % 8 == 0
+            && self.rws % 8 == 0
     }
 }
 

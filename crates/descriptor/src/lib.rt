@@ -5,6 +5,6 @@ mod configuration;
 mod place;
 mod reading;
 
-pub use configuration::{Area, Configuration, area_place, is_allowed};
-pub use place::{Place, end};
-pub use reading::{Configured, read_descriptor};
+pub use configuration::{Area, Configuration};
+pub use place::Place;
+pub use reading::read_descriptor;

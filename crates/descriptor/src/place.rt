@@ -8,22 +8,25 @@ pub struct Place {
     pub length: u32,
 }
 
-// The byte after it. Both are 32 bits wide, so the sum is taken wider: base 2^29 − 1 with 65,536 added passes 32 bits.
-pub fn end(p: Place) -> usize
-    ensures { result ≡ end_of p }
-{
-    p.offset as usize + p.length as usize
-}
+impl Place {
+    // The byte after it. Both are 32 bits wide, so the sum is taken wider: base 2^29 − 1 with 65,536 added passes
+    // 32 bits.
+    pub fn end(self) -> usize
+        ensures { result ≡ end_of self }
+    {
+        self.offset as usize + self.length as usize
+    }
 
-pub fn lies_in(window: usize, p: Place) -> bool
-    ensures { result ≡ lies_in window p }
-{
-    end(p) <= window
-}
+    pub(crate) fn lies_in(self, window: usize) -> bool
+        ensures { result ≡ lies_in window self }
+    {
+        self.end() <= window
+    }
 
-// Whether two places overlap nowhere.
-pub fn are_apart(p: Place, q: Place) -> bool
-    ensures { result ≡ apart p q }
-{
-    (end(p) <= q.offset as usize) | (end(q) <= p.offset as usize)
+    // Whether two places overlap nowhere.
+    pub(crate) fn is_apart(self, other: Place) -> bool
+        ensures { result ≡ apart self other }
+    {
+        self.end() <= other.offset as usize || other.end() <= self.offset as usize
+    }
 }

@@ -3,43 +3,32 @@ ghost use Rattle.std.specs.Prelude.{◌≡◌};
 ghost use Rattle.descriptor.specs.Reading.{signature_right, version_right, type_right, base_at, configuration_in};
 ghost use Rattle.descriptor.specs.Reading.{described_in, described_of};
 
-use crate::configuration::{Configuration, is_allowed};
+use crate::configuration::Configuration;
 use crate::place::Place;
 use mctp::Refusal;
 use octets::HighFirst;
 
-// What reading gives: a configuration that the window can have, or the refusal.
-#[derive(Clone, Copy)]
-pub enum Configured {
-    Checked(Configuration),
-    Refused(Refusal),
-}
-
-pub fn read_descriptor(window: &[u8]) -> Configured
+// A configuration that the window can have.
+#[tactic(auto, unfolding(crate::specs::Reading::described_of))]
+pub fn read_descriptor(window: &[u8]) -> Result<Configuration, Refusal>
     ensures { described_in result ≡ described_of window.now }
 {
-    let signed = (64 <= window.len()) & signature_right(window);
+    let signed = 64 <= window.len() && signature_right(window);
     if !signed {
-        return Configured::Refused(Refusal::Signature);
+        return Err(Refusal::Signature);
     }
     let c = configuration_in(window);
-    let right = version_right(window) & type_right(window) & is_allowed(window.len(), c);
+    let right = version_right(window) && type_right(window) && c.is_allowed(window.len());
     if !right {
-        return Configured::Refused(Refusal::Descriptor);
+        return Err(Refusal::Descriptor);
     }
-    Configured::Checked(c)
+    Ok(c)
 }
 
-// The letters #MMBI$.
 fn signature_right(window: &[u8]) -> bool
     ensures { result ≡ signature_right window.now }
 {
-    (octets::byte_at(window, 0) == 0x23)
-        & (octets::byte_at(window, 1) == 0x4D)
-        & (octets::byte_at(window, 2) == 0x4D)
-        & (octets::byte_at(window, 3) == 0x42)
-        & (octets::byte_at(window, 4) == 0x49)
-        & (octets::byte_at(window, 5) == 0x24)
+    window.starts_with(b"#MMBI$")
 }
 
 fn version_right(window: &[u8]) -> bool
@@ -61,6 +50,7 @@ fn base_at(window: &[u8], at: usize) -> u32
     octets::word_at::<HighFirst>(window, at) % 536870912 * 8
 }
 
+#[tactic(auto, unfolding(crate::specs::Reading::configuration_in))]
 fn configuration_in(window: &[u8]) -> Configuration
     ensures { result ≡ configuration_in window.now }
 {

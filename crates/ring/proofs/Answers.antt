@@ -1,54 +1,44 @@
--- Answers: each is told by its number and values, and one that is no packet leaves the output.
+-- Answers: each is told by its number and values.
 -- Assumes nothing.
 use mathlib.Core.Path.{◌≡◌, refl, ap}
-use mathlib.Core.List.{List}
 use Prim.Native.Nat.{ℕ}
+use Rattle.std.specs.Prelude.{Result, Ok, Err}
 use Rattle.mctp.specs.Refusals.{number_of}
+use Rattle.mctp.specs.declared.refusal.Refusal.{Refusal}
 use Rattle.mctp.proofs.Refusals.{number_injective}
-use Rattle.ring.specs.declared.answer.Carried.{Carried}
-use Rattle.ring.specs.declared.answer.Carried.TheVariants as carried
-use Rattle.ring.specs.declared.answer.Written.{Written}
-use Rattle.ring.specs.declared.answer.Written.TheVariants as written
-use Rattle.ring.specs.Reading.{output_after}
+use Rattle.ring.specs.declared.reading.Found.{Found}
+use Rattle.ring.specs.declared.reading.Found.TheVariants.{Packet, Empty, Skipped}
 use Rattle.ring.specs.Answers.{found_in, entered_in}
 
 -- an answer of reading is told by its number and values
-pub found_injective : (r s : Carried) → found_in r ≡ found_in s → r ≡ s
-found_injective (carried.Packet a b) (carried.Packet c d) e = cc
-found_injective (carried.Packet a b) carried.Empty e = cc
-found_injective (carried.Packet a b) (carried.Skipped n d) e = cc
-found_injective (carried.Packet a b) (carried.Refused n) e = cc
-found_injective carried.Empty (carried.Packet c d) e = cc
-found_injective carried.Empty carried.Empty e = refl
-found_injective carried.Empty (carried.Skipped n d) e = cc
-found_injective carried.Empty (carried.Refused n) e = cc
-found_injective (carried.Skipped m b) (carried.Packet c d) e = cc
-found_injective (carried.Skipped m b) carried.Empty e = cc
-found_injective (carried.Skipped m b) (carried.Skipped n d) e =
+pub found_injective : (r s : Result Found Refusal) → found_in r ≡ found_in s → r ≡ s
+found_injective (Ok (Packet a b)) (Ok (Packet c d)) e = cc
+found_injective (Ok (Packet a b)) (Ok Empty) e = cc
+found_injective (Ok (Packet a b)) (Ok (Skipped n d)) e = cc
+found_injective (Ok (Packet a b)) (Err n) e = cc
+found_injective (Ok Empty) (Ok (Packet c d)) e = cc
+found_injective (Ok Empty) (Ok Empty) e = refl
+found_injective (Ok Empty) (Ok (Skipped n d)) e = cc
+found_injective (Ok Empty) (Err n) e = cc
+found_injective (Ok (Skipped m b)) (Ok (Packet c d)) e = cc
+found_injective (Ok (Skipped m b)) (Ok Empty) e = cc
+found_injective (Ok (Skipped m b)) (Ok (Skipped n d)) e =
     let same : number_of m ≡ number_of n = cc in
     let at : b ≡ d = cc in
     cc (number_injective m n same)
-found_injective (carried.Skipped m b) (carried.Refused n) e = cc
-found_injective (carried.Refused m) (carried.Packet c d) e = cc
-found_injective (carried.Refused m) carried.Empty e = cc
-found_injective (carried.Refused m) (carried.Skipped n d) e = cc
-found_injective (carried.Refused m) (carried.Refused n) e =
+found_injective (Ok (Skipped m b)) (Err n) e = cc
+found_injective (Err m) (Ok (Packet c d)) e = cc
+found_injective (Err m) (Ok Empty) e = cc
+found_injective (Err m) (Ok (Skipped n d)) e = cc
+found_injective (Err m) (Err n) e =
     let same : number_of m ≡ number_of n = cc in
-    ap carried.Refused (number_injective m n same)
+    ap Err (number_injective m n same)
 
 -- an answer of writing too
-pub entered_injective : (r s : Written) → entered_in r ≡ entered_in s → r ≡ s
-entered_injective (written.Stored a) (written.Stored b) e = cc
-entered_injective (written.Stored a) (written.Refused n) e = cc
-entered_injective (written.Refused m) (written.Stored b) e = cc
-entered_injective (written.Refused m) (written.Refused n) e =
+pub entered_injective : (r s : Result ℕ Refusal) → entered_in r ≡ entered_in s → r ≡ s
+entered_injective (Ok a) (Ok b) e = cc
+entered_injective (Ok a) (Err n) e = cc
+entered_injective (Err m) (Ok b) e = cc
+entered_injective (Err m) (Err n) e =
     let same : number_of m ≡ number_of n = cc in
-    ap written.Refused (number_injective m n same)
-
--- an answer that is no packet copies nothing
-pub not_copied : (t : Carried) (s out : List ℕ) → ((size next : ℕ) → t ≡ carried.Packet size next → ⊥)
-    → output_after (found_in t) s out ≡ out
-not_copied (carried.Packet size next) s out other = absurd (other size next refl)
-not_copied carried.Empty s out other = refl
-not_copied (carried.Skipped why next) s out other = refl
-not_copied (carried.Refused why) s out other = refl
+    ap Err (number_injective m n same)

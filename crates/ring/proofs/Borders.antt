@@ -9,8 +9,8 @@ use lib.ListN.{replicate}
 use Rattle.octets.specs.Bytes.{fronted}
 use Rattle.octets.specs.Words.{word_at}
 use Rattle.mctp.specs.declared.refusal.Refusal.TheVariants.{BadPacket, OtherKind, Size, Room}
-use Rattle.ring.specs.declared.answer.Carried.TheVariants as carried
-use Rattle.ring.specs.declared.answer.Written.TheVariants as written
+use Rattle.std.specs.Prelude.{Ok, Err}
+use Rattle.ring.specs.declared.reading.Found.TheVariants.{Packet, Empty, Skipped}
 use Rattle.ring.specs.Answers.{found_in, entered_in}
 use Rattle.ring.specs.Numbers.{filled_of, room_of, next_of}
 use Rattle.ring.specs.Layout.{packet_of}
@@ -153,15 +153,15 @@ write_leaves = refl
 -- the calls' answers in document 01's numbers: no value is another one's
 pub answers_found :
     map found_in
-    (carried.Packet 5 12
-    ∷ carried.Empty
-    ∷ carried.Skipped OtherKind 12
-    ∷ carried.Skipped Size 8
-    ∷ carried.Refused BadPacket
+    (Ok (Packet 5 12)
+    ∷ Ok Empty
+    ∷ Ok (Skipped OtherKind 12)
+    ∷ Ok (Skipped Size 8)
+    ∷ Err BadPacket
     ∷ [])
     ≡ got ∷ reading.empty ∷ reading.skipped 14 12 ∷ reading.skipped 3 8 ∷ reading.refused 13 ∷ []
 answers_found = refl
 
-pub answers_entered : map entered_in (written.Stored 12 ∷ written.Refused Room ∷ [])
+pub answers_entered : map entered_in (Ok 12 ∷ Err Room ∷ [])
     ≡ writing.entered 12 ∷ writing.refused 2 ∷ []
 answers_entered = refl

@@ -116,18 +116,27 @@ module _ (length read write n : ℕ) (r : read < length) (w : write < length) wh
       ∙ filled_next length (next_of length read n) (filled_of length read write - n)
       (next_below length read n (omega arith)) (omega arith)
 
+-- a ring and its pointers are multiples of 4, so four bytes at least stay free
+module _ (length read write : ℕ) (r : read < length) (w : write < length)
+    (l : length % 4 ≡ 0) (rs : read % 4 ≡ 0) (ws : write % 4 ≡ 0) where
+  left_fours : filled_of length read write % 4 ≡ 0
+  left_fours =
+      ⊎_elim (λ c. ap (λ (k : ℕ). k % 4) c.0 ∙ omega arith) (λ c. ap (λ (k : ℕ). k % 4) c.0 ∙ omega arith)
+      (filled_cases length read write r w)
+
+  pub room_left : filled_of length read write + 4 ≤ length
+  room_left = omega (arith, filled_below length read write r w, left_fours, l)
+
+pub room_below : (length read write : ℕ) → room_of length read write ≤ length
+unfolding room_of
+room_below length read write = omega arith
+
 module _ (length read write : ℕ) (l : Length length) (r : Pointer length read) (w : Pointer length write) where
   pub filled_fours : filled_of length read write % 4 ≡ 0
-  filled_fours =
-      let a = r.fours in
-      let b = w.fours in
-      let d = l.fours in
-      let under = r.below in
-      ⊎_elim (λ c. ap (λ (k : ℕ). k % 4) c.0 ∙ omega arith) (λ c. ap (λ (k : ℕ). k % 4) c.0 ∙ omega arith)
-      (filled_cases length read write r.below w.below)
+  filled_fours = left_fours length read write r.below w.below l.fours r.fours w.fours
 
   pub filled_high : filled_of length read write + 4 ≤ length
-  filled_high = omega (arith, filled_below length read write r.below w.below, filled_fours, l.fours)
+  filled_high = room_left length read write r.below w.below l.fours r.fours w.fours
 
   -- a header always fits in what is filled, once the ring is not empty
   pub filled_header : (read ≡ write → ⊥) → 4 ≤ filled_of length read write

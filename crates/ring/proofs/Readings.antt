@@ -9,6 +9,7 @@ use borrow.Author.Tests.{leb-true, le-leb, eqb-true, eqb-false, ne_eqb, not-true
 use lib.Dec.{eqb}
 use lib.ListN.{length, take, drop, length-drop}
 use lib.Seq.{take-append-le}
+use Rattle.octets.specs.Bytes.{fronted}
 use Rattle.octets.specs.Checks.{Check}
 use Rattle.octets.proofs.Checks.{answer_at, Hold, FailsAt, first_failing_lem, none_failing, all_hold, tests}
 use Rattle.octets.proofs.Choice.{within_bounds}
@@ -16,8 +17,9 @@ use Rattle.mmbi.proofs.PointerNumbers.{Pointer}
 use Rattle.ring.specs.Numbers.{set_up_right, filled_of, next_of}
 use Rattle.ring.specs.Layout.{header_at, whole_of, padding_field, type_field, size_of, mctp_type, packet_of}
 use Rattle.ring.specs.Reading.{Found, packet, empty, skipped, refused, read_order, header_order, judged, found_of}
+use Rattle.ring.specs.Reading.{output_after, output_of}
 use Rattle.ring.specs.Round.{round_from}
-use Rattle.ring.proofs.Numbers.{SetUp, set_up_facts, set_up_holds, pointers_facts, pointers_holds, filled_below}
+use Rattle.ring.proofs.Numbers.{SetUp, set_up_facts, set_up_holds, pointers_facts, pointers_holds, filled_below, next_below}
 use Rattle.ring.proofs.Rounds.{round-length, round_round}
 
 -- what a good input is, each fact by its name
@@ -174,3 +176,23 @@ module _ (most : ℕ) (ring : List ℕ) (configured : ℕ) (readable : Bool) (re
           ∙ ap (take size) (sym (round_round ring read 4 under four))
           ∙ take-append-le size (drop 4 s) (take 4 s) inside
           ∙ ap (λ (n : ℕ). take n (drop 4 s)) h.sized
+
+      -- it can be copied out
+      pub good_copied : (next_of configured read 4 < length ring) × (size ≤ length ring) × (size ≤ output)
+      good_copied = (
+        omega (
+          arith,
+          h.set_up.same,
+          next_below configured read 4 (omega (arith, h.set_up.size.low)),
+        ),
+        omega (arith, good_short),
+        omega (arith, h.room, h.largest),
+      )
+
+      -- and the output then starts with it
+      pub good_output : (out : List ℕ) → length out ≡ output
+          → fronted out (take size (round_from (next_of configured read 4) ring))
+          ≡ output_of most ring configured readable read write out
+      good_output out long =
+          ap (fronted out) good_packet
+          ∙ sym (rw long (ap (λ (f : Found). output_after f (round_from read ring) out) good_found))

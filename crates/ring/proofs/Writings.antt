@@ -102,6 +102,16 @@ module _ (most lent configured : ℕ) (running : Bool) (read write size : ℕ) w
         → filled_of configured read write + whole_for size + 4 ≤ configured
     good_fits h = omega (arith, h.room, filled_room configured read write h.set_up.size h.from h.to)
 
+    -- so it can be stored
+    pub good_stored : Good most lent configured running read write size next
+        → (lent ≤ 65536) × (write + 4 ≤ lent) × (size ≤ 250) × (whole_for size ≤ lent)
+    good_stored h = (
+      omega (arith, h.set_up.same, h.set_up.size.high),
+      omega (arith, h.set_up.same, h.set_up.size.fours, h.to.fours, h.to.below),
+      omega (arith, h.largest, h.set_up.high),
+      omega (arith, h.set_up.same, good_fits h),
+    )
+
     -- a full ring never looks empty: the new write pointer is not the read pointer
     pub good_apart : Good most lent configured running read write size next → next ≡ read → ⊥
     good_apart h e =

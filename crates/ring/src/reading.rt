@@ -1,14 +1,26 @@
 // A packet taken out of the ring.
-ghost use Rattle.std.specs.Prelude.{◌≡◌, ◌≤◌, ◌<◌, length};
+ghost use Rattle.std.specs.Prelude.{◌≡◌, ◌≤◌, length};
 ghost use Rattle.mmbi.specs.Interface.{state_of, may_read};
+ghost use Rattle.ring.specs.Numbers.{filled_of};
 ghost use Rattle.ring.specs.Reading.{judged, found_of, output_of};
 ghost use Rattle.ring.specs.Answers.{found_in};
 
-use crate::answer::Carried;
+use crate::number::Pointed;
 use crate::{number, round};
 use mctp::Refusal;
 use mmbi::{Flags, Pointers};
 use octets::HighFirst;
+
+// What a ring holds at its read pointer.
+#[derive(Clone, Copy)]
+pub enum Found {
+    // A packet: its size and the new read pointer.
+    Packet { size: usize, next: usize },
+    // No packet is there.
+    Empty,
+    // A packet of another kind (14) or of a wrong size (3), with the pointer after it.
+    Skipped { refusal: Refusal, next: usize },
+}
 
 // The packet at the read pointer, copied to the output's front; 11 unless the interface is in normal runtime, or one
 // end alone asks for a reset.
@@ -18,7 +30,7 @@ pub fn read(
     flags: Flags,
     pointers: Pointers,
     out: &mut [u8],
-) -> Carried
+) -> Result<Found, Refusal>
     ensures answer { found_in result ≡ found_of 64 ring.now configured (may_read (state_of flags))
         pointers.read pointers.write (length out.old) }
     ensures output { out.new ≡ output_of 64 ring.now configured (may_read (state_of flags))
@@ -30,8 +42,7 @@ pub fn read(
         ring,
         configured,
         readable,
-        pointers.read,
-        pointers.write,
+        pointers,
         out,
     )
 }
@@ -42,93 +53,75 @@ fn read_within(
     ring: &[u8],
     configured: usize,
     readable: bool,
-    read: usize,
-    write: usize,
+    pointers: Pointers,
     out: &mut [u8],
-) -> Carried
-    ensures answer { found_in result ≡ found_of most ring.now configured readable read write
+) -> Result<Found, Refusal>
+    ensures answer { found_in result ≡ found_of most ring.now configured readable pointers.read pointers.write
         (length out.old) }
-    ensures output { out.new ≡ output_of most ring.now configured readable read write
+    ensures output { out.new ≡ output_of most ring.now configured readable pointers.read pointers.write
         out.old }
 {
-    let found = find(most, ring, configured, readable, read, write, out.len());
-    let Carried::Packet { size, next: _ } = found else {
-        return found;
-    };
-    round::copy_out(ring, number::next(configured, read, 4), size, out);
-    found
+    let found = find(most, ring, configured, readable, pointers, out.len())?;
+    if let Found::Packet { size, .. } = found {
+        round::copy_out(ring, number::next(configured, pointers.read, 4), size, out);
+    }
+    Ok(found)
 }
 
 // What reading finds; nothing is copied yet. Pointers are multiples of 4, as the length is, so the four bytes of a
 // header don't run over the ring's end.
+#[tactic(auto, using(crate::proofs::Headers::header_straight), unfolding(crate::specs::Reading::found_of))]
 fn find(
     most: usize,
     ring: &[u8],
     configured: usize,
     readable: bool,
-    read: usize,
-    write: usize,
+    pointers: Pointers,
     output: usize,
-) -> Carried
-    ensures { found_in result ≡ found_of most ring.now configured readable read write output }
+) -> Result<Found, Refusal>
+    ensures { found_in result ≡ found_of most ring.now configured readable pointers.read pointers.write output }
 {
     if !number::set_up_right(most, configured, ring.len()) {
-        return Carried::Refused(Refusal::Setup);
+        return Err(Refusal::Setup);
     }
-    let least = 4 + most;
-    if output < least {
-        return Carried::Refused(Refusal::Room);
+    if output < 4 + most {
+        return Err(Refusal::Room);
     }
     if !readable {
-        return Carried::Refused(Refusal::NotRunning);
+        return Err(Refusal::NotRunning);
     }
-    if !number::pointers_right(configured, read, write) {
-        return Carried::Refused(Refusal::Pointer);
+    let at = Pointed::new(configured, pointers)?;
+    if at.read == at.write {
+        return Ok(Found::Empty);
     }
-    if read == write {
-        return Carried::Empty;
-    }
-    let filled = number::filled(configured, read, write);
-    judge(
-        most,
-        configured,
-        read,
-        filled,
-        octets::word_at::<HighFirst>(ring, read),
-    )
+    judge(most, at, octets::word_at::<HighFirst>(ring, at.read))
 }
 
-// What the header of a packet at the read pointer says, where so much is filled.
-fn judge(most: usize, length: usize, read: usize, filled: usize, header: u32) -> Carried
-    requires { (most ≤ 246) × (length ≤ 65536) × (read < length) × (filled ≤ length) }
-    ensures { found_in result ≡ judged most length read filled header }
+// What the header of a packet at the read pointer says.
+#[tactic(auto, using(crate::proofs::Numbers::filled_below), unfolding(crate::specs::Reading::judged))]
+fn judge(most: usize, at: Pointed, header: u32) -> Result<Found, Refusal>
+    requires { most ≤ 246 }
+    ensures { found_in result
+        ≡ judged most at.length at.read (filled_of at.length at.read at.write) header }
 {
     let whole = ((header / 1024 + 1) * 4) as usize;
     let padding = (header / 256 % 4) as usize;
-    if filled < whole {
-        return Carried::Refused(Refusal::BadPacket);
+    if at.filled() < whole || whole < 4 + padding {
+        return Err(Refusal::BadPacket);
     }
-    let counted = 4 + padding;
-    if whole < counted {
-        return Carried::Refused(Refusal::BadPacket);
-    }
-    let next = number::next(length, read, whole);
-    let kind = header % 16;
-    if kind != 4 {
-        return Carried::Skipped {
+    let next = number::next(at.length, at.read, whole);
+    if header % 16 != 4 {
+        return Ok(Found::Skipped {
             refusal: Refusal::OtherKind,
-            next: next,
-        };
+            next,
+        });
     }
     let size = whole - 4 - padding;
     if !mctp::size_right(most, size) {
-        return Carried::Skipped {
+        return Ok(Found::Skipped {
             refusal: Refusal::Size,
-            next: next,
-        };
+            next,
+        });
     }
-    Carried::Packet {
-        size: size,
-        next: next,
-    }
+    Ok(Found::Packet { size, next })
 }

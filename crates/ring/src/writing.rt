@@ -6,33 +6,33 @@ ghost use Rattle.ring.specs.Round.{stored};
 ghost use Rattle.ring.specs.Writing.{entered_of, written_of};
 ghost use Rattle.ring.specs.Answers.{entered_in};
 
-use crate::answer::Written;
+use crate::number::Pointed;
 use crate::{number, round};
 use mctp::Refusal;
 use mmbi::{Flags, Pointers};
 use octets::HighFirst;
 
-// A packet put into the ring at the write pointer; 11 unless the interface is in normal runtime.
+// A packet put into the ring at the write pointer, which then stands at the answer; 11 unless the interface is in
+// normal runtime.
 pub fn write(
     ring: &mut [u8],
     configured: usize,
     flags: Flags,
     pointers: Pointers,
     packet: &[u8],
-) -> Written
+) -> Result<usize, Refusal>
     ensures answer { entered_in result ≡ entered_of 64 (length ring.old) configured
         (may_write (state_of flags)) pointers.read pointers.write (length packet.now) }
     ensures ring { ring.new ≡ written_of 64 ring.old configured (may_write (state_of flags))
         pointers.read pointers.write packet.now }
 {
-    let none = &packet[0..0];
     write_apart(
         mctp::LARGEST_BODY,
         ring,
         configured,
         flags,
         pointers,
-        none,
+        &[],
         packet,
     )
 }
@@ -47,7 +47,7 @@ pub fn write_apart(
     pointers: Pointers,
     header: &[u8],
     body: &[u8],
-) -> Written
+) -> Result<usize, Refusal>
     ensures answer { entered_in result ≡ entered_of most (length ring.old) configured
         (may_write (state_of flags)) pointers.read pointers.write
         (length (header.now ++ body.now)) }
@@ -55,52 +55,39 @@ pub fn write_apart(
         pointers.read pointers.write (header.now ++ body.now) }
 {
     let running = mmbi::may_write(mmbi::state(flags));
-    let entered = judge(
-        most,
-        ring.len(),
-        configured,
-        running,
-        pointers.read,
-        pointers.write,
-        header.len() + body.len(),
-    );
-    let Written::Stored(_) = entered else {
-        return entered;
-    };
+    let size = header.len() + body.len();
+    let next = judge(most, ring.len(), configured, running, pointers, size)?;
     fill(ring, pointers.write, header, body);
-    entered
+    Ok(next)
 }
 
 // What writing answers, from the packet's size alone; nothing is stored yet.
+#[tactic(auto, using(crate::proofs::Numbers::room_below), unfolding(crate::specs::Writing::entered_of))]
 fn judge(
     most: usize,
     lent: usize,
     configured: usize,
     running: bool,
-    read: usize,
-    write: usize,
+    pointers: Pointers,
     size: usize,
-) -> Written
-    ensures { entered_in result ≡ entered_of most lent configured running read write size }
+) -> Result<usize, Refusal>
+    ensures { entered_in result ≡ entered_of most lent configured running pointers.read pointers.write size }
 {
     if !number::set_up_right(most, configured, lent) {
-        return Written::Refused(Refusal::Setup);
+        return Err(Refusal::Setup);
     }
     if !mctp::size_right(most, size) {
-        return Written::Refused(Refusal::Size);
+        return Err(Refusal::Size);
     }
     if !running {
-        return Written::Refused(Refusal::NotRunning);
+        return Err(Refusal::NotRunning);
     }
-    if !number::pointers_right(configured, read, write) {
-        return Written::Refused(Refusal::Pointer);
-    }
+    let at = Pointed::new(configured, pointers)?;
     let whole = 4 + size + padding_for(size);
-    let room = number::room(configured, read, write);
-    if room < whole {
-        return Written::Refused(Refusal::Room);
+    if at.room() < whole {
+        return Err(Refusal::Room);
     }
-    Written::Stored(number::next(configured, write, whole))
+    Ok(number::next(configured, pointers.write, whole))
 }
 
 // The ring's header, the packet's two pieces and the padding, stored one after the other from the write pointer on.
@@ -128,6 +115,7 @@ fn fill(ring: &mut [u8], write: usize, header: &[u8], body: &[u8])
 }
 
 // The header of Table 6 for a packet of `size` bytes, with MCTP's type.
+#[tactic(auto, unfolding(crate::specs::Layout::header_for))]
 fn header_for(size: usize) -> u32
     requires { size ≤ 250 }
     ensures { result ≡ header_for size }
