@@ -1,15 +1,17 @@
 -- A word's remainder: it takes sums to sums; zero bytes in front change nothing; bytes come behind it as a number.
 -- Assumes nothing.
 use mathlib.Core.Path.{◌≡◌, refl, sym, ap, ap₂, ◌∙◌}
-use mathlib.Core.List.{List}
+use mathlib.Core.List.{List, []}
 use Prim.Native.Nat.{ℕ, zero, suc, ◌+◌, ◌-◌, ◌*◌, ◌/◌, ◌%◌, ◌^◌, ◌<◌, ◌≤◌}
 use native.Mathlib.Omega.{arith}
 use native.Mathlib.Nat.{add-zero, zero-add, add-suc, suc-add, mul_assoc, le-add_left, lt_of_lt_of_le}
 use native.Mathlib.Nat.{pow-le-pow_right, pow-suc}
 use lib.Bits.{bit_xor, xor_mod, xor_shr, xor_zero_l, xor_zero_r}
 use lib.Dec.{lit<, lit≤}
-use lib.ListN.{length, get_or, drop}
-use lib.Seq.{drop-cons}
+use lib.ListN.{length, get_or, take, drop}
+use lib.Seq.{drop-cons, drop-drop, get_or-take, get_or-drop}
+use Rattle.std.specs.Int.{w64, from_be_bytes}
+use Rattle.std.specs.Simd.{first_chunks}
 use Rattle.octets.specs.Bytes.{Below}
 use Rattle.pec.specs.Remainder.{poly_step, eight_steps, byte_step, pec_from}
 use Rattle.pec.specs.Words.{number_at, word_from, word_pec}
@@ -106,12 +108,37 @@ module _ (s : List ℕ) (bytes : Below 256 s) where
       ∙ ap (pec_from (word_from r n x)) (drop-cons s (i + n) 0 (omega arith))
       ∙ ap₂ pec_from step rest
 
--- Eight bytes in two halves.
-pub two_halves : (s : List ℕ) (i : ℕ) → number_at s i 4 * 4294967296 + number_at s (i + 4) 4 ≡ number_at s i 8
+  -- So a word v, which is the word w with n zero bytes behind it, takes up the n bytes from place i on.
+  pub comes : (w v x i n : ℕ) → n ≤ 8 → i + n ≤ length s → word_pec v ≡ word_from (word_pec w) n 0
+      → x ≡ number_at s i n → pec_from (word_pec (bit_xor v x)) (drop (i + n) s) ≡ pec_from (word_pec w) (drop i s)
+  comes w v x i n few h e number =
+      let left = drop (i + n) s in
+      ap (λ (y : ℕ). pec_from (word_pec (bit_xor v y)) left) number
+      ∙ ap (λ (r : ℕ). pec_from r left) (number_comes n w v (number_at s i n) few (number_below i n) e)
+      ∙ sym (bytes_come (word_pec w) i n h)
+
+-- The number of a part is that of its places,
+number_within : (s : List ℕ) (i n k : ℕ) → k ≤ n → number_at (take n (drop i s)) 0 k ≡ number_at s i k
 unfolding number_at
-two_halves s i =
-    let a : i + 4 + 0 ≡ i + 4 = omega arith in
-    let b : i + 4 + 1 ≡ i + 5 = omega arith in
-    let c : i + 4 + 2 ≡ i + 6 = omega arith in
-    let d : i + 4 + 3 ≡ i + 7 = omega arith in
-    rw (a, b, c, d) (omega arith)
+number_within s i n zero h = refl
+number_within s i n (suc k) h =
+    let place : 0 + k ≡ k = omega arith in
+    rw place
+    (ap₂ (λ (x b : ℕ). x * 256 + b) (number_within s i n k (omega arith))
+    (get_or-take n (drop i s) k 0 (omega arith) ∙ get_or-drop i s k 0))
+
+pub number_of_part : (s : List ℕ) (i n : ℕ) → number_at (take n (drop i s)) 0 n ≡ number_at s i n
+number_of_part s i n = number_within s i n n (omega arith)
+
+-- and eight bytes make the number that the library makes of them.
+pub number_of_eight : (s : List ℕ) → from_be_bytes w64 s ≡ number_at s 0 8
+unfolding number_at
+number_of_eight s = omega arith
+
+-- The words of a list stand eight places apart.
+pub chunk_at : (s : List ℕ) (n i : ℕ) → i < n → get_or (first_chunks 8 n s) i [] ≡ take 8 (drop (i * 8) s)
+chunk_at s zero i h = absurd (omega arith)
+chunk_at s (suc n) zero h = refl
+chunk_at s (suc n) (suc i) h =
+    let place : 8 + i * 8 ≡ suc i * 8 = omega arith in
+    chunk_at (drop 8 s) n i (omega arith) ∙ ap (take 8) (drop-drop (i * 8) 8 s ∙ ap (λ (k : ℕ). drop k s) place)

@@ -1,6 +1,6 @@
 // Words of eight bytes, and other words of the same remainder. The polynomial says that x^8 is x^2 + x + 1; squared
 // again and again, x^16 is x^4 + x^2 + 1, x^32 is x^4 + x^2 + x, and x^64 is x^4 + x + 1.
-ghost use Rattle.std.specs.Prelude.{◌≡◌, ◌+◌, ◌-◌, ◌%◌, ◌≤◌, ◌<◌, length, drop};
+ghost use Rattle.std.specs.Prelude.{◌≡◌, ◌<◌, length};
 ghost use Rattle.pec.specs.Remainder.{pec_from};
 ghost use Rattle.pec.specs.Words.{word_from, word_pec, number_at};
 
@@ -8,20 +8,10 @@ ghost use Rattle.pec.specs.Words.{word_from, word_pec, number_at};
 pub fn behind(w: u64, s: &[u8]) -> u64
     ensures { word_pec result ≡ pec_from (word_pec w) s.now }
 {
-    let first = s.len() % 8;
-    words_behind(shifted(w, first) ^ front(s, first), s, first)
-}
-
-// The word w, and behind it the bytes of s from a place on, eight at a time.
-fn words_behind(w: u64, s: &[u8], from: usize) -> u64
-    requires { (from ≤ length s.now) × ((length s.now - from) % 8 ≡ 0) }
-    ensures { word_pec result ≡ pec_from (word_pec w) (drop from s.now) }
-{
-    let mut all = w;
-    let mut i = from;
-    while i < s.len() {
-        all = shifted_word(all) ^ eight(s, i);
-        i += 8;
+    let (first, words) = s.as_rchunks::<8>();
+    let mut all = shifted(w, first.len()) ^ number(first);
+    for eight in words {
+        all = shifted_word(all) ^ u64::from_be_bytes(*eight);
     }
     all
 }
@@ -59,45 +49,14 @@ pub fn folded(w: u64) -> u64
     (d ^ e << 4 ^ e << 2 ^ e) % 65536
 }
 
-// The first n bytes as a number, the highest first.
-fn front(s: &[u8], n: usize) -> u64
-    requires { (n < 8) × (n ≤ length s.now) }
-    ensures { result ≡ number_at s.now 0 n }
+// Bytes that make no whole word as a number, the highest first.
+fn number(s: &[u8]) -> u64
+    requires { length s.now < 8 }
+    ensures { result ≡ number_at s.now 0 (length s.now) }
 {
     let mut w: u64 = 0;
-    let mut i = 0;
-    while i < n {
-        w = w * 256 + wide(byte(s[i]));
-        i += 1;
+    for b in s {
+        w = w * 256 + u64::from(*b);
     }
     w
-}
-
-// The eight bytes from place i on likewise. Made of two halves that are widened, they come out as one load.
-fn eight(s: &[u8], i: usize) -> u64
-    requires { i + 8 ≤ length s.now }
-    ensures { result ≡ number_at s.now i 8 }
-{
-    wide(four(s, i)) * 4294967296 + wide(four(s, i + 4))
-}
-
-fn four(s: &[u8], i: usize) -> u32
-    requires { i + 4 ≤ length s.now }
-    ensures { result ≡ number_at s.now i 4 }
-{
-    byte(s[i]) * 16777216 + byte(s[i + 1]) * 65536 + byte(s[i + 2]) * 256 + byte(s[i + 3])
-}
-
-fn wide(x: u32) -> u64
-    ensures value { result ≡ x }
-    ensures bound { result < 4294967296 }
-{
-    x as u64
-}
-
-fn byte(x: u8) -> u32
-    ensures value { result ≡ x }
-    ensures bound { result < 256 }
-{
-    x as u32
 }
