@@ -1,5 +1,7 @@
 // A region read: the packet as a part of it, the refusal number, the notify flag.
 ghost use Rattle.std.specs.Prelude.{◌≡◌};
+ghost use Rattle.std.specs.Result.{result_unwrap_or};
+ghost use Rattle.mctp.specs.Refusals.{outcome_number};
 ghost use Rattle.pcc.specs.Reading.{refusal_of, size_of, part_of, packet_of, notify_of};
 ghost use Rattle.pcc.specs.Answers.{number_read, size_read, notify_read};
 
@@ -48,12 +50,22 @@ pub fn part(region: &[u8], size: usize) -> &[u8]
     octets::part(region, 16, size)
 }
 
-// The one function that looks at a region; every check has its line, in the order of document 01.
-#[tactic(auto, unfolding(crate::specs::Reading::refusal_of, crate::specs::Reading::size_of, crate::specs::Reading::notify_of))]
+#[tactic(auto, unfolding(crate::specs::Reading::notify_of))]
 fn read_within(most: usize, region: &[u8], id: u32) -> Result<Packet, Refusal>
     ensures number { number_read result ≡ refusal_of most region.now id }
     ensures size { size_read result ≡ size_of most region.now id }
     ensures notify { notify_read result ≡ notify_of most region.now id }
+{
+    let size = check(most, region, id)?;
+    let notify = octets::word_at::<LowFirst>(region, 4) % 2 == 1;
+    Ok(Packet { size, notify })
+}
+
+// The size of the packet that a region carries; every check has its line, in the order of document 01.
+#[tactic(auto, unfolding(crate::specs::Reading::refusal_of, crate::specs::Reading::size_of))]
+fn check(most: usize, region: &[u8], id: u32) -> Result<usize, Refusal>
+    ensures number { outcome_number result ≡ refusal_of most region.now id }
+    ensures size { result_unwrap_or result 0 ≡ size_of most region.now id }
 {
     if !mctp::body_right(most) || 255 < id {
         return Err(Refusal::Setup);
@@ -71,8 +83,5 @@ fn read_within(most: usize, region: &[u8], id: u32) -> Result<Packet, Refusal>
     if !(9..=8 + most).contains(&length) || region.len() - 12 < length {
         return Err(Refusal::Size);
     }
-    Ok(Packet {
-        size: length - 4,
-        notify: octets::word_at::<LowFirst>(region, 4) % 2 == 1,
-    })
+    Ok(length - 4)
 }

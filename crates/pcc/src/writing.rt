@@ -1,5 +1,5 @@
 // A packet written to a region's front.
-ghost use Rattle.std.specs.Prelude.{◌≡◌, ◌++◌, ◌+◌, ◌≤◌, length};
+ghost use Rattle.std.specs.Prelude.{◌≡◌, ◌++◌, ◌+◌, ◌≤◌, OnOk, length};
 ghost use Rattle.octets.specs.Bytes.{fronted};
 ghost use Rattle.mctp.specs.Refusals.{outcome_number};
 ghost use Rattle.pcc.specs.Layout.{region_of};
@@ -22,7 +22,7 @@ pub fn write(region: &mut [u8], id: u32, notify: bool, packet: &[u8]) -> Result<
 
 // A packet whose header and body lie apart, with the largest body as a number: who cuts a message needs no buffer of a
 // packet.
-#[tactic(auto, using(crate::proofs::Writings::good), unfolding(crate::specs::Writing::written_of))]
+#[tactic(auto, unfolding(crate::specs::Writing::written_of))]
 pub fn write_apart(
     most: usize,
     region: &mut [u8],
@@ -44,7 +44,8 @@ pub fn write_apart(
 // Whether a packet of this size may be written: by the lengths and the id alone.
 #[tactic(auto, unfolding(crate::specs::Writing::write_refusal))]
 fn may_write(most: usize, room: usize, id: u32, size: usize) -> Result<(), Refusal>
-    ensures { outcome_number result ≡ write_refusal most room id size }
+    ensures number { outcome_number result ≡ write_refusal most room id size }
+    ensures fits { OnOk result ((id ≤ 255) × (size ≤ 250) × (16 + size ≤ room)) }
 {
     if !mctp::body_right(most) || 255 < id {
         return Err(Refusal::Setup);

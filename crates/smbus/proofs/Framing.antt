@@ -1,12 +1,12 @@
 -- The frame as it is laid into an output: the head, the packet in two pieces, and the PEC of these three.
 -- Assumes nothing.
-use mathlib.Core.Path.{◌≡◌, sym, ap, ◌∙◌}
+use mathlib.Core.Path.{◌≡◌, refl, sym, ap, ◌∙◌}
 use mathlib.Core.List.{List, [], ◌∷◌, ◌++◌, append_assoc}
 use Prim.Native.Nat.{ℕ, ◌+◌, ◌*◌, ◌≤◌}
 use native.Mathlib.Omega.{arith}
 use lib.ListN.{length, set, length-append}
 use Rattle.octets.specs.Bytes.{laid, fronted}
-use Rattle.octets.proofs.Laid.{laid-append, laid_front}
+use Rattle.octets.proofs.Laid.{laid-append, laid-length, laid_front}
 use Rattle.pec.specs.Remainder.{pec_of}
 use Rattle.smbus.specs.Layout.{head_of, covered_of, frame_of}
 
@@ -56,3 +56,20 @@ module _ (destination source : ℕ) (packet : List ℕ) where
         ap (λ (n : ℕ). set (laid out 0 covered) n (pec_of covered)) end
         ∙ sym (laid-append out 0 covered (pec_of covered ∷ []))
         ∙ laid_front out (frame_of destination source packet) (omega (arith, frame-length))
+
+-- The three pieces laid, and the PEC of them stored behind: nothing but the front changes.
+module _ (destination source : ℕ) (out header body : List ℕ) (room : 5 + (length header + length body) ≤ length out) where
+  abbrev copied : List ℕ
+  copied = laid (laid (laid out 0 (head_apart destination source header body)) 4 header) (4 + length header) body
+
+  pub copied-length : length copied ≡ length out
+  copied-length = simp laid-length refl
+
+  pub filled : set copied (4 + (length header + length body))
+      (pec_of (head_apart destination source header body ++ header ++ body))
+      ≡ fronted out (frame_of destination source (header ++ body))
+  filled =
+      let packet = header ++ body in
+      let size : length packet ≡ length header + length body = length-append header body in
+      rw (covered_laid destination source header body out, covered_apart destination source header body, sym size)
+      (frame_laid destination source packet out (omega (arith, size)))

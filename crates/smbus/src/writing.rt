@@ -1,5 +1,5 @@
 // Writing a packet as a frame: first whether it may be, by sizes and addresses alone, then the frame itself.
-ghost use Rattle.std.specs.Prelude.{◌≡◌, ◌++◌, ◌+◌, ◌≤◌, length};
+ghost use Rattle.std.specs.Prelude.{◌≡◌, ◌++◌, ◌+◌, ◌≤◌, OnOk, length};
 ghost use Rattle.octets.specs.Bytes.{fronted};
 ghost use Rattle.mctp.specs.Refusals.{outcome_number};
 ghost use Rattle.smbus.specs.Layout.{frame_of};
@@ -23,7 +23,7 @@ pub fn write(out: &mut [u8], packet: &[u8], destination: u8, source: u8) -> Resu
 
 // A packet whose header and body lie apart, with the largest body as a number: who cuts a message needs no buffer of a
 // packet.
-#[tactic(auto, using(crate::proofs::Writings::good), unfolding(crate::specs::Writing::size_of, crate::specs::Writing::written_of))]
+#[tactic(auto, unfolding(crate::specs::Writing::size_of, crate::specs::Writing::written_of))]
 pub fn write_apart(
     most: usize,
     out: &mut [u8],
@@ -54,7 +54,8 @@ fn may_write(
     destination: u8,
     source: u8,
 ) -> Result<(), Refusal>
-    ensures { outcome_number result ≡ write_refusal most room size destination source }
+    ensures number { outcome_number result ≡ write_refusal most room size destination source }
+    ensures fits { OnOk result ((destination ≤ 127) × (source ≤ 127) × (size ≤ 250) × (5 + size ≤ room)) }
 {
     if !mctp::body_right(most) || 127 < destination || 127 < source {
         return Err(Refusal::Setup);
