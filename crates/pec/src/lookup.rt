@@ -11,9 +11,8 @@ pub fn remainder(w: u64) -> u8
 {
     // Taken once: a constant that is indexed is built anew at every place that does so.
     let table = remainders();
-    let two = word::folded(w);
-    let high = table[(two / 256) as usize];
-    table[(high ^ (two % 256) as u8) as usize]
+    let [high, low] = word::folded(w).to_be_bytes();
+    table[usize::from(table[usize::from(high)] ^ low)]
 }
 
 // The table as a value, with the one test that ties each entry to eight polynomial steps.

@@ -37,16 +37,15 @@ fn shifted_word(w: u64) -> u64
 }
 
 // The word w folded to sixteen bits: what stands above 32 bits is taken × x^32, then above 16 bits × x^16, twice.
-pub fn folded(w: u64) -> u64
-    ensures value { word_pec result ≡ word_pec w }
-    ensures bound { result < 65536 }
+pub fn folded(w: u64) -> u16
+    ensures { word_pec result ≡ word_pec w }
 {
     let a = w >> 32;
     let b = w % 4294967296 ^ a << 4 ^ a << 2 ^ a << 1;
     let c = b >> 16;
     let d = b % 65536 ^ c << 4 ^ c << 2 ^ c;
     let e = d >> 16;
-    (d ^ e << 4 ^ e << 2 ^ e) % 65536
+    ((d ^ e << 4 ^ e << 2 ^ e) % 65536) as u16
 }
 
 // Bytes that make no whole word as a number, the highest first.

@@ -6,4 +6,4 @@ use Rattle.pec.proofs.word.folded.Goals as goal
 
 pub returns : goal.returns
 unfolding folded
-returns c = record { value = folded_right_lem c.args.w (omega arith); bound = omega arith }
+returns c = folded_right_lem c.args.w (omega arith)
