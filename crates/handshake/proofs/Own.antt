@@ -24,7 +24,8 @@ host_does_lem host.Waiting f = (refl, refl)
 pub host_writes_its_own : (phase : HostPhase) (seen : Flags) → KeepsController (host_step phase seen).change
 unfolding host_step
 host_writes_its_own phase seen =
-    pick_elim (λ (s : Step HostPhase). KeepsController s.change) (host_sees phase seen) (host_does phase) (host_waits phase)
+    pick_elim (λ (s : Step HostPhase). KeepsController s.change) (host_sees phase seen) (host_does phase)
+    (host_waits phase)
     (λ (e : _). host_does_lem phase) (λ (e : _) (f : Flags). (refl, refl))
 
 controller_does_lem : (phase : ControllerPhase) (seen : Flags) → controller_sees phase seen ≡ true

@@ -50,7 +50,8 @@ power_up_by_flags = (refl, refl)
 
 -- the number 0 reads as phase running: what `of_number` promises of 0 leaves no other answer
 pub zeroed_reads_as_running :
-    ((r : Result HostPhase Refusal) → host_refusal r ≡ stored_refusal host_phases 0 → host_stored r ≡ stored_number host_phases 0
+    ((r : Result HostPhase Refusal) → host_refusal r ≡ stored_refusal host_phases 0
+    → host_stored r ≡ stored_number host_phases 0
     → r ≡ Ok host.Running)
     × ((r : Result ControllerPhase Refusal) → controller_refusal r ≡ stored_refusal controller_phases 0
     → controller_stored r ≡ stored_number controller_phases 0

@@ -1,18 +1,17 @@
 // The reset handshake's page: its table of phases and its traces, asked of the proved calls.
 #![tactic(auto)]
 
-mod end;
 mod names;
 mod phases;
 mod runs;
 mod text;
 
-use end::{CONTROLLER, HOST};
-use runs::Run;
-use text::Text;
+use handshake::{ControllerPhase, HostPhase};
+use runs::{Asker, End, Run};
+use std::io;
 
-// The words of the page. A byte of 0x80 or more stands for what the calls answer.
-const PAGE: [u8; 2796] = *b"# The reset handshake
+// The page up to the rows of its first table.
+const FRONT: &str = "# The reset handshake
 
 This page is what the program `resets` prints (`rt check resets && ./run resets`). Every row is asked of the proved
 calls, and the gate compares the page with what the program prints.
@@ -26,47 +25,10 @@ A row for each phase and flag state in which a step acts. No. is the number unde
 
 | End | No. | Phase | Sees | State by Table 5 | Does | Then |
 |---|---|---|---|---|---|---|
-\x80\x81
-In every other state the phase waits: it changes no flag and keeps its phase. That is so in \x82 of \x83 pairs of a
-phase and a flag state.
+";
 
-A number that is no phase is refused with 1: \x84 for the host, \x85 for the controller.
-
-An ask takes the host\x86 and the controller\x87. It changes no other phase.
-
-## Steps until both ends run in normal runtime again
-
-At 1010, with both ends in phase running, one end asks, or both do. Then they step in turn until the flags are 1010 and
-both phases are running. Every step counts, one that waits too.
-
-| | Host steps first | Controller steps first |
-|---|---|---|
-| Host asks | \x92 | \x93 |
-| Controller asks | \x94 | \x95 |
-| Both ask | \x96 | \x97 |
-
-## The host asks, and steps first
-
-| Step | End | Phase | Sees | State by Table 5 | Does | Then |
-|---|---|---|---|---|---|---|
-\xA2
-That took \x92 steps.
-
-## The controller asks, and steps first
-
-| Step | End | Phase | Sees | State by Table 5 | Does | Then |
-|---|---|---|---|---|---|---|
-\xA5
-That took \x95 steps.
-
-## Both ask, and the host steps first
-
-| Step | End | Phase | Sees | State by Table 5 | Does | Then |
-|---|---|---|---|---|---|---|
-\xA6
-That took \x96 steps.
-
-## What firmware adds
+// The page from its last heading on.
+const FIRMWARE: &str = "## What firmware adds
 
 - An end looks at the flags once a turn, and makes one step by what it saw.
 - Before its step it drains the ring that it reads; the host not once it has set H_RST (003, Table 5, row 1011).
@@ -82,50 +44,99 @@ For the rest see [RULES.md](RULES.md#reset-handshake), [DECISIONS.md](DECISIONS.
 ";
 
 fn main(rt: HostRuntime) {
-    let page = PAGE;
-    tell_page(Text { rt, written: true }, &page);
-}
-
-// Says the page, and in place of each mark what the calls answer.
-fn tell_page(text: Text, page: &[u8]) -> Text {
-    let mut told = text;
-    let mut from = 0;
-    let mut i = 0;
-    while i < page.len() {
-        let mark = page[i];
-        if 0x80 <= mark {
-            told = tell_answer(told.say(&page[from..i]), mark);
-            from = i + 1;
-        }
-        i += 1;
-    }
-    told.say(&page[from..i])
-}
-
-fn tell_answer(text: Text, mark: u8) -> Text {
-    let end = if mark % 2 == 0 { HOST } else { CONTROLLER };
-    match mark {
-        0x80 | 0x81 => phases::show(text, end),
-        0x82 => text.number(phases::count(HOST).waiting + phases::count(CONTROLLER).waiting),
-        0x83 => text.number(phases::count(HOST).all + phases::count(CONTROLLER).all),
-        0x84 | 0x85 => phases::show_refused(text, end),
-        0x86 | 0x87 => phases::show_asks(text, end),
-        0x90..=0x9F => text.number(run_of(mark).count()),
-        _ => run_of(mark).show(text),
+    if let Err(error) = tell_page(rt) {
+        text::fail(rt, "resets: standard output", error);
     }
 }
 
-// By the mark's digits of worth 2, 4 and 1: whether the host asks, the controller asks, the controller steps first.
-fn run_of(mark: u8) -> Run {
-    let host = if mark / 2 % 2 == 1 { HOST.ask() } else { HOST };
-    let controller = if mark / 4 % 2 == 1 {
-        CONTROLLER.ask()
-    } else {
-        CONTROLLER
-    };
-    if mark % 2 == 1 {
-        Run::start(controller, host)
-    } else {
-        Run::start(host, controller)
+fn tell_page(rt: HostRuntime) -> io::Result<()> {
+    rt.print(FRONT)?;
+    tell_phases(rt)?;
+    tell_counts(rt)?;
+    tell_run(rt, "The host asks, and steps first", Asker::Host, End::Host)?;
+    tell_run(
+        rt,
+        "The controller asks, and steps first",
+        Asker::Controller,
+        End::Controller,
+    )?;
+    tell_run(
+        rt,
+        "Both ask, and the host steps first",
+        Asker::Both,
+        End::Host,
+    )?;
+    rt.print(FIRMWARE)
+}
+
+fn tell_phases(rt: HostRuntime) -> io::Result<()> {
+    phases::show::<HostPhase>(rt)?;
+    phases::show::<ControllerPhase>(rt)?;
+    let host = phases::count::<HostPhase>();
+    let controller = phases::count::<ControllerPhase>();
+    let waits = host.waiting + controller.waiting;
+    let all = host.all + controller.all;
+    print!(rt;
+        "
+In every other state the phase waits: it changes no flag and keeps its phase. That is so in {waits} of {all} pairs of a
+phase and a flag state.
+
+A number that is no phase is refused with 1: "
+    )?;
+    phases::show_refused::<HostPhase>(rt)?;
+    print!(rt; " for the host, ")?;
+    phases::show_refused::<ControllerPhase>(rt)?;
+    print!(rt;
+        " for the controller.
+
+An ask takes the host"
+    )?;
+    phases::show_asks::<HostPhase>(rt)?;
+    print!(rt; " and the controller")?;
+    phases::show_asks::<ControllerPhase>(rt)?;
+    println!(rt;
+        ". It changes no other phase.
+"
+    )
+}
+
+fn tell_counts(rt: HostRuntime) -> io::Result<()> {
+    print!(rt;
+        "## Steps until both ends run in normal runtime again
+
+At 1010, with both ends in phase running, one end asks, or both do. Then they step in turn until the flags are 1010 and
+both phases are running. Every step counts, one that waits too.
+
+| | Host steps first | Controller steps first |
+|---|---|---|
+"
+    )?;
+    for (asks, asker) in [
+        ("Host asks", Asker::Host),
+        ("Controller asks", Asker::Controller),
+        ("Both ask", Asker::Both),
+    ] {
+        let host_first = Run::start(asker, End::Host).count();
+        let controller_first = Run::start(asker, End::Controller).count();
+        println!(rt; "| {asks} | {host_first} | {controller_first} |")?;
     }
+    println!(rt; "")
+}
+
+fn tell_run(rt: HostRuntime, heading: &str, asker: Asker, first: End) -> io::Result<()> {
+    print!(rt;
+        "## {heading}
+
+| Step | End | Phase | Sees | State by Table 5 | Does | Then |
+|---|---|---|---|---|---|---|
+"
+    )?;
+    let run = Run::start(asker, first);
+    run.show(rt)?;
+    let steps = run.count();
+    println!(rt;
+        "
+That took {steps} steps.
+"
+    )
 }

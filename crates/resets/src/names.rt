@@ -1,92 +1,124 @@
 // Ends, phases, flags, states and changes in words.
-use crate::end::End;
-use crate::text::Text;
+use handshake::{ControllerPhase, HostPhase, Phase, Step};
 use mmbi::{Act, Change, Flags, InterfaceState};
+use std::fmt;
 
-// The states as Table 5 of 003 names them.
-const STATES: [u8; 226] = *b"Initialization in Progress
-Initialization Completed
-Normal Runtime
-Reset Request by (B)MC
-Reset Request by Host
-Reset ACKed
-Transitioning to Initialization
-Temporary Transition States
-Initialization Mismatch
-Unexpected States
-";
+// The phases of one end, by name.
+pub trait Named: Phase {
+    const END: &'static str;
 
-pub fn side(text: Text, end: End) -> Text {
-    match end {
-        End::Host(_) => text.say(b"host"),
-        End::Controller(_) => text.say(b"controller"),
+    fn name(self) -> &'static str;
+}
+
+impl Named for HostPhase {
+    const END: &'static str = "host";
+
+    fn name(self) -> &'static str {
+        match self {
+            HostPhase::Running => "running",
+            HostPhase::Asking => "asking",
+            HostPhase::Waiting => "waiting",
+        }
     }
 }
 
-// The names stand in the order of the phases' numbers.
-pub fn phase(text: Text, end: End) -> Text {
-    let n = end.number() as usize;
-    match end {
-        End::Host(_) => text.line(b"running\nasking\nwaiting\n", n),
-        End::Controller(_) => text.line(
-            b"running\nasking\nasked\ndown\ncleared\ninitializing\n",
-            n,
-        ),
+impl Named for ControllerPhase {
+    const END: &'static str = "controller";
+
+    fn name(self) -> &'static str {
+        match self {
+            ControllerPhase::Running => "running",
+            ControllerPhase::Asking => "asking",
+            ControllerPhase::Asked => "asked",
+            ControllerPhase::Down => "down",
+            ControllerPhase::Cleared => "cleared",
+            ControllerPhase::Initializing => "initializing",
+        }
     }
 }
 
 // B_UP, B_RST, H_UP and H_RST, a digit each.
-pub fn digits(text: Text, flags: Flags) -> Text {
-    text.say(&[
-        digit(flags.controller_up),
-        digit(flags.controller_reset),
-        digit(flags.host_up),
-        digit(flags.host_reset),
-    ])
-}
+#[derive(Clone, Copy)]
+pub struct Digits(pub Flags);
 
-fn digit(flag: bool) -> u8 {
-    if flag { b'1' } else { b'0' }
-}
-
-pub fn interface_state(text: Text, flags: Flags) -> Text {
-    let states = STATES;
-    let state = mmbi::state(flags);
-    let n = match state {
-        InterfaceState::InitializationInProgress => 0,
-        InterfaceState::InitializationCompleted => 1,
-        InterfaceState::NormalRuntime => 2,
-        InterfaceState::ResetRequestByController => 3,
-        InterfaceState::ResetRequestByHost => 4,
-        InterfaceState::ResetAcked => 5,
-        InterfaceState::TransitioningToInitialization => 6,
-        InterfaceState::TemporaryTransition => 7,
-        InterfaceState::InitializationMismatch => 8,
-        InterfaceState::Unexpected => 9,
-    };
-    text.line(&states, n)
-}
-
-pub fn change(text: Text, change: Change) -> Text {
-    match change {
-        Change::Nothing => text.say(b"waits"),
-        Change::Host(act) => text.line(
-            b"sets H_UP\nclears H_UP\nsets H_RST\nclears H_RST\nclears H_UP and H_RST\n",
-            place(act),
-        ),
-        Change::Controller(act) => text.line(
-            b"sets B_UP\nclears B_UP\nsets B_RST\nclears B_RST\nclears B_UP and B_RST\n",
-            place(act),
-        ),
+impl fmt::Display for Digits {
+    fn fmt<W: fmt::Write>(&self, f: &mut fmt::Formatter<W>) -> fmt::Result {
+        let Digits(flags) = *self;
+        let b_up = u8::from(flags.controller_up);
+        let b_rst = u8::from(flags.controller_reset);
+        let h_up = u8::from(flags.host_up);
+        let h_rst = u8::from(flags.host_reset);
+        write!(f, "{b_up}{b_rst}{h_up}{h_rst}")
     }
 }
 
-fn place(act: Act) -> usize {
-    match act {
-        Act::SetUp => 0,
-        Act::ClearUp => 1,
-        Act::SetReset => 2,
-        Act::ClearReset => 3,
-        Act::ClearBoth => 4,
+// A state as Table 5 of 003 names it.
+pub fn state_name(state: InterfaceState) -> &'static str {
+    match state {
+        InterfaceState::InitializationInProgress => "Initialization in Progress",
+        InterfaceState::InitializationCompleted => "Initialization Completed",
+        InterfaceState::NormalRuntime => "Normal Runtime",
+        InterfaceState::ResetRequestByController => "Reset Request by (B)MC",
+        InterfaceState::ResetRequestByHost => "Reset Request by Host",
+        InterfaceState::ResetAcked => "Reset ACKed",
+        InterfaceState::TransitioningToInitialization => "Transitioning to Initialization",
+        InterfaceState::TemporaryTransition => "Temporary Transition States",
+        InterfaceState::InitializationMismatch => "Initialization Mismatch",
+        InterfaceState::Unexpected => "Unexpected States",
+    }
+}
+
+// What is done to which flags.
+#[derive(Clone, Copy)]
+pub struct Deed(pub Change);
+
+impl fmt::Display for Deed {
+    fn fmt<W: fmt::Write>(&self, f: &mut fmt::Formatter<W>) -> fmt::Result {
+        let (act, end) = match self.0 {
+            Change::Nothing => return f.write_str("waits"),
+            Change::Host(act) => (act, 'H'),
+            Change::Controller(act) => (act, 'B'),
+        };
+        match act {
+            Act::SetUp => write!(f, "sets {end}_UP"),
+            Act::ClearUp => write!(f, "clears {end}_UP"),
+            Act::SetReset => write!(f, "sets {end}_RST"),
+            Act::ClearReset => write!(f, "clears {end}_RST"),
+            Act::ClearBoth => write!(f, "clears {end}_UP and {end}_RST"),
+        }
+    }
+}
+
+// A step of an end: its phase, the flags that it sees, what it does, its next phase.
+#[derive(Clone, Copy)]
+pub struct Row {
+    pub end: &'static str,
+    phase: &'static str,
+    sees: Flags,
+    does: Change,
+    next: &'static str,
+}
+
+impl Row {
+    pub fn of<P: Named>(phase: P, sees: Flags, step: Step<P>) -> Row {
+        Row {
+            end: P::END,
+            phase: phase.name(),
+            sees,
+            does: step.change,
+            next: step.next.name(),
+        }
+    }
+}
+
+// The row from the phase on.
+impl fmt::Display for Row {
+    fn fmt<W: fmt::Write>(&self, f: &mut fmt::Formatter<W>) -> fmt::Result {
+        let phase = self.phase;
+        let sees = Digits(self.sees);
+        let state = state_name(mmbi::state(self.sees));
+        let does = Deed(self.does);
+        let next = self.next;
+        write!(f, "{phase} | {sees} | {state} | {does} | {next} |")
     }
 }

@@ -1,76 +1,102 @@
 // Both ends stepping in turn, from an ask until both run in normal runtime again.
-use crate::end::End;
-use crate::text::Text;
-use crate::{names, phases};
+ghost use Rattle.std.specs.Iterator.{at_most};
+
+use crate::names::{Named, Row};
+use handshake::{ControllerPhase, HostPhase, Phase};
 use mmbi::Flags;
+use std::io;
 
 // More steps than any run takes.
-const LIMIT: usize = 20;
+const LIMIT: u8 = 20;
 
-// The flags, the end whose step is next, and the other.
+#[derive(Clone, Copy)]
+pub enum End {
+    Host,
+    Controller,
+}
+
+#[derive(Clone, Copy)]
+pub enum Asker {
+    Host,
+    Controller,
+    Both,
+}
+
+// The flags, where both ends stand, whose step is next, and how many more steps are looked at.
 #[derive(Clone, Copy)]
 pub struct Run {
     flags: Flags,
+    host: HostPhase,
+    controller: ControllerPhase,
     next: End,
-    other: End,
+    left: u8,
 }
 
 impl Run {
-    // In normal runtime.
-    pub fn start(first: End, second: End) -> Run {
+    // In normal runtime, where an end asks, or both do.
+    pub fn start(asker: Asker, first: End) -> Run {
+        let host = HostPhase::Running;
+        let controller = ControllerPhase::Running;
+        let (host, controller) = match asker {
+            Asker::Host => (host.ask(), controller),
+            Asker::Controller => (host, controller.ask()),
+            Asker::Both => (host.ask(), controller.ask()),
+        };
         Run {
             flags: Flags::NORMAL_RUNTIME,
+            host,
+            controller,
             next: first,
-            other: second,
+            left: LIMIT,
         }
     }
 
-    // How many steps it takes until the flags are 1010 and both phases running.
-    pub fn count(self) -> usize {
-        let mut run = self;
-        let mut n = 0;
-        while n < LIMIT {
-            let next = run.next;
-            let other = run.other;
-            if mmbi::same_flags(run.flags, Flags::NORMAL_RUNTIME)
-                & next.is_running()
-                & other.is_running()
-            {
-                return n;
+    // A row for each step.
+    pub fn show(self, rt: HostRuntime) -> io::Result<()> {
+        for (n, row) in (1u8..).zip(self) {
+            let end = row.end;
+            println!(rt; "| {n} | {end} | {row}")?;
+        }
+        Ok(())
+    }
+
+    // Whether the flags are 1010 and both phases running.
+    fn is_back(&self) -> bool {
+        self.flags == Flags::NORMAL_RUNTIME
+            && self.host == HostPhase::Running
+            && self.controller == ControllerPhase::Running
+    }
+}
+
+// The steps that it takes until the flags are 1010 and both phases running.
+impl Iterator for Run {
+    type Item = Row;
+
+    ghost remaining = { λ run. at_most run.left };
+
+    fn next(&mut self) -> Option<Row> {
+        if self.is_back() {
+            return None;
+        }
+        self.left = self.left.checked_sub(1)?;
+        let row = match self.next {
+            End::Host => {
+                self.next = End::Controller;
+                make_step(&mut self.host, &mut self.flags)
             }
-            run = run.after();
-            n += 1;
-        }
-        n
+            End::Controller => {
+                self.next = End::Host;
+                make_step(&mut self.controller, &mut self.flags)
+            }
+        };
+        Some(row)
     }
+}
 
-    // A row for each of them.
-    pub fn show(self, text: Text) -> Text {
-        let steps = self.count();
-        let mut shown = text;
-        let mut run = self;
-        let mut n = 0;
-        while n < steps {
-            n += 1;
-            let end = run.next;
-            let row = shown.say(b"| ").number(n).say(b" | ");
-            shown = phases::show_step(names::side(row, end).say(b" | "), end, run.flags);
-            run = run.after();
-        }
-        shown
-    }
-
-    // Once its next step is made.
-    fn after(self) -> Run {
-        let end = self.next;
-        let other = self.other;
-        let step = end.step(self.flags);
-        let change = step.change;
-        let stepped = step.next;
-        Run {
-            flags: mmbi::changed_flags(self.flags, change),
-            next: other,
-            other: stepped,
-        }
-    }
+fn make_step<P: Named>(phase: &mut P, flags: &mut Flags) -> Row {
+    let step = phase.step(*flags);
+    let row = Row::of(*phase, *flags, step);
+    *phase = step.next;
+    *flags = mmbi::changed_flags(*flags, step.change);
+    row
 }
