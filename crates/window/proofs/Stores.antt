@@ -15,6 +15,7 @@ use Rattle.octets.specs.Choice.{pick}
 use Rattle.octets.specs.Words.{high_first, word_at, word_bytes}
 use Rattle.octets.proofs.Checks.{none_failing, all_hold}
 use Rattle.octets.proofs.Laid.{laid-length}
+use Rattle.mctp.proofs.Refusals.{number_positive}
 use Rattle.mmbi.specs.declared.word.Word.{Word}
 use Rattle.mmbi.specs.Pointers.{pointer_right}
 use Rattle.mmbi.specs.Words.{word_of, number_of}
@@ -241,3 +242,6 @@ module _ (s : List ℕ) (c : Configuration) (p : Pointer) (w : Word) where
   store_keeps_rings ring r =
       stored_either s c p w (λ (l : List ℕ). area_of l c ring ≡ area_of s c ring) refl
       (λ (good : _). rw (stored_laid s c p w good) (with_word_keeps_rings s c p w (ok s c p w good) ring r))
+
+-- what is stored by an outcome: no refusal has the number 0
+pub ruleset stored_either_way = (stored_laid, stored_refused, number_positive)

@@ -4,5 +4,5 @@
 mod place;
 mod word;
 
-pub use place::{area, place_of, refusal};
+pub use place::{area, check, place_of};
 pub use word::{Interface, Pointer, interface_of, store, store_flags, store_pointer};
