@@ -1,11 +1,10 @@
 -- The contracts of the public calls leave no choice: two results that one allows on the same input are equal.
 -- Assumes nothing.
-use Rattle.std.proofs.Common.{◌≡◌, ℕ, ◌<◌, true, false, sym, refl, ap, ◌∙◌, arith}
+use Rattle.std.proofs.Common.{◌≡◌, ℕ, ◌<◌, true, false, Result, Ok, Err, sym, refl, ap, ◌∙◌, arith}
 use contract.Lifetimes.{Lfts}
 use Rattle.octets.proofs.Choice.{determined}
 use Rattle.mctp.proofs.Refusals.{number_injective, number_positive}
-use Rattle.mctp.specs.declared.refusal.Outcome.{Outcome}
-use Rattle.mctp.specs.declared.refusal.Outcome.TheVariants.{Good, Refused}
+use Rattle.mctp.specs.declared.refusal.Refusal.{Refusal}
 use Rattle.slots.specs.declared.change.Changed.{Changed}
 use Rattle.mctp.specs.Refusals.{outcome_number}
 use Rattle.slots.specs.Slots.{free_slot}
@@ -26,11 +25,11 @@ use Rattle.slots.proofs.tally.with_offered.Reads as with-offered
 use Rattle.slots.proofs.tally.with_done.Reads as with-done
 
 -- an outcome is told by its number
-outcome_injective : (a b : Outcome) → outcome_number a ≡ outcome_number b → a ≡ b
-outcome_injective Good Good e = refl
-outcome_injective Good (Refused s) e = absurd (omega (arith, number_positive s))
-outcome_injective (Refused r) Good e = absurd (omega (arith, number_positive r))
-outcome_injective (Refused r) (Refused s) e = ap Refused (number_injective r s e)
+outcome_injective : (a b : Result (Unit {0}) Refusal) → outcome_number a ≡ outcome_number b → a ≡ b
+outcome_injective (Ok u) (Ok v) e = refl
+outcome_injective (Ok u) (Err s) e = absurd (omega (arith, number_positive s))
+outcome_injective (Err r) (Ok v) e = absurd (omega (arith, number_positive r))
+outcome_injective (Err r) (Err s) e = ap Err (number_injective r s e)
 
 changed_same : (a b : Changed) → outcome_number a.outcome ≡ outcome_number b.outcome → a.receiver ≡ b.receiver
     → a ≡ b

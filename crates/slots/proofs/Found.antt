@@ -1,7 +1,8 @@
 -- Slots found: the first that passes a test passes it, none below does, and the slot of a key is the one that has it.
 -- Assumes nothing.
-use Rattle.std.proofs.Common.{◌≡◌, ℕ, zero, suc, ◌+◌, ◌-◌, ◌<◌, ◌≤◌, Bool, true, false, List, sym, refl, ap, ◌∙◌}
-use Rattle.std.proofs.Common.{true≢false, add-one, arith}
+use Rattle.std.proofs.Common.{◌≡◌, ℕ, zero, suc, ◌+◌, ◌<◌, ◌≤◌, Bool, true, false, List, sym, refl, ap, ◌∙◌}
+use Rattle.std.proofs.Common.{true≢false, arith, [], ◌∷◌, length, position}
+use Rattle.octets.specs.Choice.{pick}
 use mathlib.Core.Bool.{false≢true}
 use mathlib.Core.Logic.{dite, by_cases}
 use native.Mathlib.Decide.{dec_lt, ℕ_discrete}
@@ -11,7 +12,7 @@ use Rattle.slots.specs.declared.state.Slot.{Slot}
 use Rattle.slots.specs.declared.state.SlotState.{SlotState}
 use Rattle.slots.specs.declared.state.SlotState.TheVariants.{Free, Gathering}
 use Rattle.slots.specs.declared.state.Receiver.{Receiver}
-use Rattle.slots.specs.Slots.{slot_at, is_free, has_key, first_of, slot_of, lowest_free}
+use Rattle.slots.specs.Slots.{slot_at, is_free, has_key, first_of, slot_of, lowest_free, found_slot}
 use Rattle.slots.specs.State.{clash}
 use Rattle.slots.proofs.States.{Right}
 
@@ -28,29 +29,6 @@ module _ (f : SlotState → Bool) (l : List Slot) where
   first_end : (i : ℕ) → first_of f l i zero ≡ i
   unfolding first_of
   first_end i = refl
-
-  -- in a loop over n slots, those from slot i on have the answer
-  abbrev pub Looking : (n answer i : ℕ) → Type 0
-  Looking n answer i = (i ≤ n) × (first_of f l i (n - i) ≡ answer)
-
-  module _ {n a i : ℕ} (looking : Looking n a i) where
-    left : i < n → n - i ≡ suc (n - (i + 1))
-    left h = omega arith
-
-    pub found_here : i < n → f (slot_at l i) ≡ true → i ≡ a
-    found_here h e = sym (ap (first_of f l i) (left h) ∙ first_here i (n - (i + 1)) e) ∙ looking.1
-
-    pub look_on : i < n → f (slot_at l i) ≡ false → Looking n a (i + 1)
-    look_on h e = (
-      omega arith,
-      sym (ap (first_of f l i) (left h) ∙ first_on i (n - (i + 1)) e ∙ rw add-one refl) ∙ looking.1,
-    )
-
-    pub none_left : n ≤ i → n ≡ a
-    none_left h =
-        let end : i ≡ n = omega (arith, looking.0) in
-        let none : n - i ≡ 0 = omega arith in
-        sym (ap (first_of f l i) none ∙ first_end i ∙ end) ∙ looking.1
 
   -- it stops within the slots looked through, at one that passes, and passes over none that does
   pub record First (i n k : ℕ) : Type 0 where
@@ -99,6 +77,21 @@ module _ (f : SlotState → Bool) (l : List Slot) where
       before : (i j : ℕ) → i ≤ j → j < i → ⊥
       before i j a b = omega arith
   first i (suc n) = step i n (f (slot_at l i)) refl (first (suc i) n)
+
+-- what std's `position` gives over four slots
+pub position_found : (f : SlotState → Bool) (l : List Slot) → length l ≡ 4
+    → position (λ (x : Slot). f x.state) l ≡ found_slot (first_of f l 0 4)
+unfolding first_of
+position_found f (a ∷ b ∷ c ∷ d ∷ []) h = by_tests (f a.state) (f b.state) (f c.state) (f d.state)
+  where
+    by_tests : (p q r s : Bool)
+        → position (λ (b : Bool). b) (p ∷ q ∷ r ∷ s ∷ []) ≡ found_slot (pick p 0 (pick q 1 (pick r 2 (pick s 3 4))))
+    by_tests true q r s = refl
+    by_tests false true r s = refl
+    by_tests false false true s = refl
+    by_tests false false false true = refl
+    by_tests false false false false = refl
+position_found f l h = absurd (omega arith)
 
 -- a slot that has a key gathers for it
 pub holder : (k : Key) (s : SlotState) → has_key k s ≡ true → (q : ℕ) × (u : ℕ) × (h : ℕ) × (s ≡ Gathering k q u h)

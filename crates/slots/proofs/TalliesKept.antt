@@ -1,6 +1,7 @@
 -- The tallies that the slots tell: their sums, and how they move with one slot.
 -- Assumes nothing.
-use Rattle.std.proofs.Common.{◌≡◌, ℕ, ◌+◌, ◌*◌, ◌<◌, ◌≤◌, List, length, set, ap, ◌∙◌, arith, lit<, lit≤}
+use Rattle.std.proofs.Common.{◌≡◌, ℕ, ◌+◌, ◌*◌, ◌<◌, ◌≤◌, List, [], ◌∷◌, length, set, ap, ◌∙◌, arith, lit<, lit≤}
+use Rattle.std.specs.List.{sum_by}
 use lib.Seq.{set_out}
 use Rattle.slots.specs.declared.state.Slot.{Slot}
 use Rattle.slots.specs.declared.state.SlotState.{SlotState}
@@ -20,6 +21,12 @@ module _ (f : SlotState → ℕ) where
   pub sum_at_most : (b : ℕ) (l : List Slot) → ((j : ℕ) → j < 4 → f (slot_at l j) ≤ b) → sum_of f l ≤ 4 * b
   unfolding sum_of
   sum_at_most b l most = omega (arith, most 0 (lit< tt), most 1 (lit< tt), most 2 (lit< tt), most 3 (lit< tt))
+
+  -- what std's `sum` adds up over four slots
+  pub sum_over : (l : List Slot) → length l ≡ 4 → sum_by (λ (x : Slot). f x.state) l ≡ sum_of f l
+  unfolding sum_of
+  sum_over (a ∷ b ∷ c ∷ d ∷ []) h = omega arith
+  sum_over l h = absurd (omega arith)
 
   module _ (l : List Slot) (x : Slot) where
     -- slot j and three others

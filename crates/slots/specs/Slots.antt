@@ -1,7 +1,7 @@
 -- The slots of a receiver: one by its number, one by its key, the lowest that is free. As many as were looked through
 -- stands for none.
 -- Assumes nothing.
-use Rattle.std.specs.Prelude.{ℕ, zero, suc, Bool, true, false, List, slice_index_or}
+use Rattle.std.specs.Prelude.{ℕ, zero, suc, Bool, true, false, List, slice_index_or, nat_lt, Option, Some, None}
 use Rattle.octets.specs.Choice.{pick}
 use Rattle.mctp.specs.declared.packet.Key.{Key}
 use Rattle.mctp.specs.Key.{same_key}
@@ -41,3 +41,7 @@ slot_of slots k = first_of (has_key k) slots 0 4
 -- "the lowest free slot" of n slots from slot i on
 unfoldable pub lowest_free : List Slot → (i n : ℕ) → ℕ
 lowest_free slots i n = first_of is_free slots i n
+
+-- the slot of this number, none past the last
+abbrev pub found_slot : (slot : ℕ) → Option ℕ
+found_slot i = pick (nat_lt i 4) (Some i) None

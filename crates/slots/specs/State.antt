@@ -1,9 +1,10 @@
 -- What makes a receiver's state right (document 01, "Putting messages together"; document 02, #102, #106): exactly that
 -- list.
 -- Assumes nothing.
-use Rattle.std.specs.Prelude.{ℕ, ◌%◌, Bool, true, false, not, ◌&&◌, length, ◌==◌, nat_le}
+use Rattle.std.specs.Prelude.{ℕ, ◌%◌, Bool, true, false, not, ◌&&◌, List, length, ◌==◌, nat_le}
 use Rattle.mctp.specs.Packet.{body_right}
 use Rattle.slots.specs.declared.state.Setup.{Setup}
+use Rattle.slots.specs.declared.state.Slot.{Slot}
 use Rattle.slots.specs.declared.state.SlotState.{SlotState}
 use Rattle.slots.specs.declared.state.SlotState.TheVariants.{Free, Gathering}
 use Rattle.slots.specs.declared.state.Receiver.{Receiver}
@@ -40,12 +41,19 @@ abbrev pub four_apart : (a b c d : SlotState) → Bool
 four_apart a b c d =
     not (clash a b) && not (clash a c) && not (clash a d) && not (clash b c) && not (clash b d) && not (clash c d)
 
+-- the four slots of a list
+abbrev pub each_right : (most : ℕ) → Setup → List Slot → Bool
+each_right most s slots = four_right most s (slot_at slots 0) (slot_at slots 1) (slot_at slots 2) (slot_at slots 3)
+
+abbrev pub all_apart : List Slot → Bool
+all_apart slots = four_apart (slot_at slots 0) (slot_at slots 1) (slot_at slots 2) (slot_at slots 3)
+
 -- "The receiver has an own EID (0 or 8 to 254), four slots": the whole list
 unfoldable pub right_state : (most : ℕ) → Receiver → Bool
 right_state most r =
     body_right most
     && right_setup r.setup
-    && four_right most r.setup (slot_at r.slots 0) (slot_at r.slots 1) (slot_at r.slots 2) (slot_at r.slots 3)
-    && four_apart (slot_at r.slots 0) (slot_at r.slots 1) (slot_at r.slots 2) (slot_at r.slots 3)
+    && each_right most r.setup r.slots
+    && all_apart r.slots
     && right_tallies r.tallies (gathering_in r.slots) (held_in r.slots)
     && length r.slots == 4

@@ -3,20 +3,17 @@ ghost use Rattle.std.specs.Prelude.{◌≡◌};
 ghost use Rattle.slots.specs.Ages.{age, too_old, expired};
 
 use crate::change::with_slot;
-use crate::state::{Receiver, Slot, SlotState};
+use crate::state::{Receiver, Slot};
 
 // The receiver at this millisecond count: every slot that is older than the limit is freed.
 pub fn expired(receiver: Receiver, time: u32) -> Receiver
     ensures { result ≡ expired time receiver }
 {
-    let setup = receiver.setup;
     let mut next = receiver;
-    let mut slot = 0;
-    while slot < 4 {
-        if too_old(setup.limit, time, next.slots[slot]) {
+    for slot in 0..4 {
+        if too_old(receiver.setup.limit, time, next.slots[slot]) {
             next = with_slot(next, slot, Slot::FREE);
         }
-        slot += 1;
     }
     next
 }
@@ -24,21 +21,12 @@ pub fn expired(receiver: Receiver, time: u32) -> Receiver
 fn too_old(limit: u32, time: u32, slot: Slot) -> bool
     ensures { result ≡ too_old limit time slot.state slot.since }
 {
-    let state = slot.state;
-    match state {
-        SlotState::Free => false,
-        SlotState::Gathering {
-            key: _,
-            sequence: _,
-            unit: _,
-            held: _,
-        } => limit < age(time, slot.since),
-    }
+    !slot.is_free() & (limit < age(time, slot.since))
 }
 
 // "Age is now minus then, modulo 2^32."
 fn age(time: u32, since: u32) -> u32
     ensures { result ≡ age time since }
 {
-    std::num::wrapping_sub_u32(time, since)
+    time.wrapping_sub(since)
 }

@@ -5,33 +5,31 @@ ghost use Rattle.slots.specs.Changes.{fresh, with_slot, set_up_refusal, set_up_o
 
 use crate::state::{Receiver, Setup, Slot, Tallies};
 use crate::{check, tally};
-use mctp::{Eid, Outcome, Refusal};
+use mctp::{Eid, Refusal};
 
 // The outcome, and the receiver as the call leaves it.
 #[derive(Clone, Copy)]
 pub struct Changed {
-    pub outcome: Outcome,
+    pub outcome: Result<(), Refusal>,
     pub receiver: Receiver,
 }
 
 // A fresh receiver with this own EID, whose slots are freed once they are older than `limit` milliseconds; refused, one
 // with the null EID and the longest limit stands beside the refusal.
+#[tactic(auto, unfolding(crate::specs::Changes::set_up_refusal, crate::specs::Changes::set_up_of))]
 pub fn set_up(own: Eid, limit: u32) -> Changed
     ensures number { outcome_number result.outcome ≡ set_up_refusal (record { own = own; limit = limit }) }
     ensures receiver { result.receiver ≡ set_up_of (record { own = own; limit = limit }) }
 {
-    let setup = Setup {
-        own: own,
-        limit: limit,
-    };
+    let setup = Setup { own, limit };
     if check::setup_right(setup) {
         return Changed {
-            outcome: Outcome::Good,
+            outcome: Ok(()),
             receiver: fresh_of(setup),
         };
     }
     Changed {
-        outcome: Outcome::Refused(Refusal::Setup),
+        outcome: Err(Refusal::Setup),
         receiver: fresh_of(Setup {
             own: Eid::NULL,
             limit: Setup::LONGEST_LIMIT,
@@ -51,30 +49,29 @@ pub fn free(receiver: Receiver, slot: usize) -> Changed
 pub fn with_slot(receiver: Receiver, slot: usize, new: Slot) -> Receiver
     ensures { result ≡ with_slot receiver slot new }
 {
-    let slots = receiver.slots;
     if slot < 4 {
-        let moved = tally::moved_tallies(receiver.tallies, slots[slot], new);
         let mut next = receiver;
+        next.tallies = tally::moved_tallies(receiver.tallies, receiver.slots[slot], new);
         next.slots[slot] = new;
-        next.tallies = moved;
         return next;
     }
     receiver
 }
 
+#[tactic(auto, unfolding(crate::specs::Changes::free_refusal, crate::specs::Changes::freed_of))]
 fn free_within(most: usize, receiver: Receiver, slot: usize) -> Changed
     ensures number { outcome_number result.outcome ≡ free_refusal most receiver slot }
     ensures receiver { result.receiver ≡ freed_of most receiver slot }
 {
     if check::right_within(most, receiver) & (slot < 4) {
         return Changed {
-            outcome: Outcome::Good,
+            outcome: Ok(()),
             receiver: with_slot(receiver, slot, Slot::FREE),
         };
     }
     Changed {
-        outcome: Outcome::Refused(Refusal::Setup),
-        receiver: receiver,
+        outcome: Err(Refusal::Setup),
+        receiver,
     }
 }
 
@@ -82,13 +79,8 @@ fn fresh_of(setup: Setup) -> Receiver
     ensures { result ≡ fresh setup }
 {
     Receiver {
-        setup: setup,
-        slots: [Slot::FREE, Slot::FREE, Slot::FREE, Slot::FREE],
-        tallies: Tallies {
-            gathering: 0,
-            held: 0,
-            offered: 0,
-            done: 0,
-        },
+        setup,
+        slots: [Slot::FREE; 4],
+        tallies: Tallies::NONE,
     }
 }

@@ -1,4 +1,7 @@
 // The receiver by value: what it was set up with, its four slots, and its tallies.
+ghost use Rattle.std.specs.Prelude.{◌≡◌};
+ghost use Rattle.slots.specs.Slots.{is_free, has_key};
+
 use mctp::{Eid, Key};
 
 // The own EID, and the age in milliseconds over which a slot is freed.
@@ -36,6 +39,22 @@ impl Slot {
         state: SlotState::Free,
         since: 0,
     };
+
+    pub(crate) fn is_free(self) -> bool
+        ensures { result ≡ is_free self.state }
+    {
+        matches!(self.state, SlotState::Free)
+    }
+
+    // Whether the slot gathers for this key.
+    pub(crate) fn has_key(self, key: Key) -> bool
+        ensures { result ≡ has_key key self.state }
+    {
+        match self.state {
+            SlotState::Free => false,
+            SlotState::Gathering { key: own, .. } => own == key,
+        }
+    }
 }
 
 // What the front panel shows: slots gathering, bytes held by them, packets offered to the message rules, messages done.
@@ -45,6 +64,15 @@ pub struct Tallies {
     pub held: u32,
     pub offered: u32,
     pub done: u32,
+}
+
+impl Tallies {
+    pub const NONE: Tallies = Tallies {
+        gathering: 0,
+        held: 0,
+        offered: 0,
+        done: 0,
+    };
 }
 
 #[derive(Clone, Copy)]

@@ -21,33 +21,26 @@ next_to time r q n b e old =
 
 pub loop-slot-init : goal.loop-slot-init
 unfolding expired_to
-loop-slot-init c = (omega arith, refl)
+loop-slot-init c = refl
 
 pub loop-slot-preserved : goal.loop-slot-preserved
 loop-slot-preserved c =
     let a = c.args in
-    let old : (b : Bool) → c.too_old.result ≡ b → old_at a.time c.loop-slot.next c.loop-slot.slot ≡ b =
+    let next = c.loop-slot.next in
+    let slot = c.loop-slot.slot in
+    let old : (b : Bool) → c.too_old.result ≡ b → old_at a.time next slot ≡ b =
     λ b e.
-    ap (λ (s : Setup). too_old s.limit a.time (slot_at c.loop-slot.next.slots c.loop-slot.slot)
-    (since_at c.loop-slot.next.slots c.loop-slot.slot))
-    (ap (λ (x : Receiver). x.setup) c.loop-slot.invariant.1
-    ∙ expired_setup a.time a.receiver c.loop-slot.slot c.loop-slot.invariant.0)
+    ap (λ (s : Setup). too_old s.limit a.time (slot_at next.slots slot) (since_at next.slots slot))
+    (ap (λ (x : Receiver). x.setup) c.loop-slot.invariant ∙ expired_setup a.time a.receiver slot (omega arith))
     ∙ sym c.too_old.ensures
-    ∙ e in (
-      omega arith,
-      rw add-one
-          (elim c.if-too_old.branch [
-            | then-too_old w ↦ w.next-is ∙ w.with_slot-next.ensures
-                ∙ next_to a.time a.receiver c.loop-slot.next c.loop-slot.slot true c.loop-slot.invariant.1
-                (old true w.if-too_old.true)
-            | else-too_old w ↦ w.next-is
-                ∙ next_to a.time a.receiver c.loop-slot.next c.loop-slot.slot false c.loop-slot.invariant.1
-                (old false w.if-too_old.false)
-          ]),
-    )
+    ∙ e in
+    rw add-one
+    (elim c.if-too_old.branch [
+      | then-too_old w ↦ w.next-is ∙ w.with_slot-next.ensures
+          ∙ next_to a.time a.receiver next slot true c.loop-slot.invariant (old true w.if-too_old.true)
+      | else-too_old w ↦ w.next-is
+          ∙ next_to a.time a.receiver next slot false c.loop-slot.invariant (old false w.if-too_old.false)
+    ])
 
 pub returns : goal.returns
-returns c =
-    let a = c.args in
-    let last : c.loop-slot.slot ≡ 4 = omega (arith, c.loop-slot.invariant.0) in
-    c.loop-slot.invariant.1 ∙ ap (expired_to a.time a.receiver) last
+returns c = c.loop-slot.invariant ∙ ap (expired_to c.args.time c.args.receiver) (omega arith)

@@ -11,7 +11,7 @@ returns-then-slot-lt4 c =
     c.well_formed.0.1.1.1.0.1.0.1 in
     let there : c.args.slot < length c.args.receiver.slots = omega (arith, four) in
     rw (
-      c.moved_tallies-moved.ensures,
+      c.moved_tallies-next.ensures,
       slot_same c.args.receiver.slots c.args.slot c.args.new there,
     )
 

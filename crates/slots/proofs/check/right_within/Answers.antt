@@ -4,27 +4,23 @@ use Rattle.std.proofs.Common.{◌≡◌, Bool, ◌&&◌, length, sym, ap, eq-eqb
 use mathlib.Core.Bool.{and-true, and_assoc}
 use Rattle.mctp.specs.Packet.{body_right}
 use Rattle.slots.specs.Setup.{right_setup}
-use Rattle.slots.specs.Slots.{slot_at}
-use Rattle.slots.specs.Tallies.{sum_of, gathering_in, held_in, right_tallies}
-use Rattle.slots.specs.State.{four_right, four_apart, right_state}
+use Rattle.slots.specs.Tallies.{gathering_in, held_in, right_tallies}
+use Rattle.slots.specs.State.{each_right, all_apart, right_state}
 use Rattle.slots.proofs.check.right_within.Goals as goal
 
 pub returns : goal.returns
-unfolding right_state sum_of
+unfolding right_state
 returns c =
     let most = c.args.most in
     let r = c.args.receiver in
-    let slots = r.slots in
-    let four : length slots ≡ 4 = c.well_formed.1.0.1.1.1.0.1.0.1 in
-    let each = four_right most r.setup (slot_at slots 0) (slot_at slots 1) (slot_at slots 2) (slot_at slots 3) in
-    let apart = four_apart (slot_at slots 0) (slot_at slots 1) (slot_at slots 2) (slot_at slots 3) in
+    let four : length r.slots ≡ 4 = c.well_formed.1.0.1.1.1.0.1.0.1 in
     rw (
-      eq-eqb (length slots) 4 four,
+      eq-eqb (length r.slots) 4 four,
       and-true,
       c.body_right.ensures,
       c.setup_right.ensures,
       c.slots_right.ensures,
       c.right_tallies.ensures,
     )
-    (ap (λ (t : Bool). t && right_tallies r.tallies (gathering_in slots) (held_in slots))
-    (sym (and_assoc (body_right most && right_setup r.setup) each apart)))
+    (ap (λ (t : Bool). t && right_tallies r.tallies (gathering_in r.slots) (held_in r.slots))
+    (sym (and_assoc (body_right most && right_setup r.setup) (each_right most r.setup r.slots) (all_apart r.slots))))

@@ -2,20 +2,21 @@
 -- Assumes nothing.
 use Rattle.std.proofs.Common.{sym, arith}
 use mathlib.Core.Bool.{and-true}
+use Rattle.slots.specs.Slots.{slot_at}
+use Rattle.slots.specs.Tallies.{sum_of}
 use Rattle.slots.proofs.Gathering.{none_gathers, one_gathers}
 use Rattle.slots.proofs.check.slots_right.Goals as goal
 
 pub returns-then-gathering-eq0 : goal.returns-then-gathering-eq0
+unfolding sum_of
 returns-then-gathering-eq0 c = sym (none_gathers _ _ _ _ _ _ (omega arith))
 
 pub returns-then-gathering-eq1 : goal.returns-then-gathering-eq1
+unfolding sum_of
 returns-then-gathering-eq1 c =
-    let args = c.args in
+    let slots = c.args.slots.now in
     rw (
-      c.four_right-right.ensures,
-      one_gathers args.a.state args.b.state args.c.state args.d.state (omega arith),
+      c.each_right-right.ensures,
+      one_gathers (slot_at slots 0) (slot_at slots 1) (slot_at slots 2) (slot_at slots 3) (omega arith),
       and-true,
     )
-
-pub returns : goal.returns
-returns c = rw (c.four_right-right.ensures, c.four_apart.ensures)

@@ -1,21 +1,21 @@
--- `slots::find::lowest_free` meets its contract. The invariant: the slots that are left have the answer.
+-- `slots::find::lowest_free` meets its contract.
 -- Assumes nothing.
-use Rattle.std.proofs.Common.{sym, refl, ◌∙◌, arith}
+use Rattle.std.proofs.Common.{rules, tests, ◌≡◌, position, length, ◌∙◌, arith}
+use Rattle.std.proofs.lemmas.Grind.{common_steps}
+use Rattle.std.proofs.lemmas.Iterator.{YieldsList-from_slice}
+use Rattle.std.proofs.lemmas.Iterator.Search.{position_from_yields_List}
+use Rattle.slots.specs.declared.state.Slot.{Slot}
 use Rattle.slots.specs.Slots.{is_free, lowest_free}
-use Rattle.slots.proofs.Found.{found_here, look_on, none_left}
+use Rattle.slots.proofs.Found.{position_found}
 use Rattle.slots.proofs.find.lowest_free.Goals as goal
 
-pub loop-slot-init : goal.loop-slot-init
-unfolding lowest_free
-loop-slot-init c = (omega arith, refl)
-
-pub returns-then-is_free : goal.returns-then-is_free
-returns-then-is_free c =
-    found_here is_free _ c.loop-slot.invariant (omega arith) (sym c.is_free.ensures ∙ c.if-is_free.true)
-
-pub loop-slot-preserved : goal.loop-slot-preserved
-loop-slot-preserved c =
-    look_on is_free _ c.loop-slot.invariant (omega arith) (sym c.is_free.ensures ∙ c.if-is_free.false)
-
 pub returns : goal.returns
-returns c = none_left is_free _ c.loop-slot.invariant (omega arith)
+unfolding lowest_free
+returns c =
+    let slots = c.args.receiver.slots in
+    let four : length slots ≡ 4 = c.well_formed.0.1.1.1.0.1.0.1 in
+    let first : c.position-found.result ≡ position (λ (x : Slot). is_free x.state) slots =
+    position_from_yields_List (λ (x : Slot). is_free x.state) _ _ _ c.position-found.ensures.ran
+    (YieldsList-from_slice slots c.iter.ensures.rest) (λ x b q k. search (rules, tests)) in
+    let same : c.map.result ≡ c.position-found.result = grind (arith, common_steps) in
+    same ∙ first ∙ position_found is_free slots four

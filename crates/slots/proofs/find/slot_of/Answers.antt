@@ -1,21 +1,22 @@
--- `slots::find::slot_of` meets its contract. The invariant: the slots that are left have the answer.
+-- `slots::find::slot_of` meets its contract.
 -- Assumes nothing.
-use Rattle.std.proofs.Common.{sym, refl, ◌∙◌, arith}
+use Rattle.std.proofs.Common.{rules, tests, ◌≡◌, position, length, ◌∙◌, arith}
+use Rattle.std.proofs.lemmas.Grind.{common_steps}
+use Rattle.std.proofs.lemmas.Iterator.{YieldsList-from_slice}
+use Rattle.std.proofs.lemmas.Iterator.Search.{position_from_yields_List}
+use Rattle.slots.specs.declared.state.Slot.{Slot}
 use Rattle.slots.specs.Slots.{has_key, slot_of}
-use Rattle.slots.proofs.Found.{found_here, look_on, none_left}
+use Rattle.slots.proofs.Found.{position_found}
 use Rattle.slots.proofs.find.slot_of.Goals as goal
 
-pub loop-slot-init : goal.loop-slot-init
-unfolding slot_of
-loop-slot-init c = (omega arith, refl)
-
-pub returns-then-has_key : goal.returns-then-has_key
-returns-then-has_key c =
-    found_here (has_key _) _ c.loop-slot.invariant (omega arith) (sym c.has_key.ensures ∙ c.if-has_key.true)
-
-pub loop-slot-preserved : goal.loop-slot-preserved
-loop-slot-preserved c =
-    look_on (has_key _) _ c.loop-slot.invariant (omega arith) (sym c.has_key.ensures ∙ c.if-has_key.false)
-
 pub returns : goal.returns
-returns c = none_left (has_key _) _ c.loop-slot.invariant (omega arith)
+unfolding slot_of
+returns c =
+    let key = c.args.key in
+    let slots = c.args.receiver.slots in
+    let four : length slots ≡ 4 = c.well_formed.0.1.1.1.0.1.0.1 in
+    let first : c.position-found.result ≡ position (λ (x : Slot). has_key key x.state) slots =
+    position_from_yields_List (λ (x : Slot). has_key key x.state) _ _ _ c.position-found.ensures.ran
+    (YieldsList-from_slice slots c.iter.ensures.rest) (λ x b q k. search (rules, tests)) in
+    let same : c.map.result ≡ c.position-found.result = grind (arith, common_steps) in
+    same ∙ first ∙ position_found (has_key key) slots four
