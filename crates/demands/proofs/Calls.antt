@@ -30,18 +30,18 @@ use Rattle.handshake.specs.Phases.{host_number, host_refusal, host_stored, host_
 use Rattle.handshake.specs.Phases.{controller_number, controller_refusal, controller_stored, controller_asked}
 use Rattle.handshake.specs.Starts.{host_at_power_up, host_from_flags, controller_at_power_up, controller_from_flags}
 use Rattle.handshake.specs.Steps.{host_step, controller_step}
-use Rattle.handshake.proofs.host.HostPhase.step.Reads as host-step
-use Rattle.handshake.proofs.host.HostPhase.ask.Reads as host-ask
-use Rattle.handshake.proofs.host.HostPhase.number.Reads as host-number
-use Rattle.handshake.proofs.host.HostPhase.of_number.Reads as host-of-number
-use Rattle.handshake.proofs.host.HostPhase.at_power_up.Reads as host-at-power-up
-use Rattle.handshake.proofs.host.HostPhase.from_flags.Reads as host-from-flags
-use Rattle.handshake.proofs.controller.ControllerPhase.step.Reads as controller-step
-use Rattle.handshake.proofs.controller.ControllerPhase.ask.Reads as controller-ask
-use Rattle.handshake.proofs.controller.ControllerPhase.number.Reads as controller-number
-use Rattle.handshake.proofs.controller.ControllerPhase.of_number.Reads as controller-of-number
-use Rattle.handshake.proofs.controller.ControllerPhase.at_power_up.Reads as controller-at-power-up
-use Rattle.handshake.proofs.controller.ControllerPhase.from_flags.Reads as controller-from-flags
+use Rattle.handshake.proofs.host.HostPhasePhase.step.Reads as host-step
+use Rattle.handshake.proofs.host.HostPhasePhase.ask.Reads as host-ask
+use Rattle.handshake.proofs.host.HostPhasePhase.number.Reads as host-number
+use Rattle.handshake.proofs.host.HostPhasePhase.of_number.Reads as host-of-number
+use Rattle.handshake.proofs.host.HostPhasePhase.at_power_up.Reads as host-at-power-up
+use Rattle.handshake.proofs.host.HostPhasePhase.from_flags.Reads as host-from-flags
+use Rattle.handshake.proofs.controller.ControllerPhasePhase.step.Reads as controller-step
+use Rattle.handshake.proofs.controller.ControllerPhasePhase.ask.Reads as controller-ask
+use Rattle.handshake.proofs.controller.ControllerPhasePhase.number.Reads as controller-number
+use Rattle.handshake.proofs.controller.ControllerPhasePhase.of_number.Reads as controller-of-number
+use Rattle.handshake.proofs.controller.ControllerPhasePhase.at_power_up.Reads as controller-at-power-up
+use Rattle.handshake.proofs.controller.ControllerPhasePhase.from_flags.Reads as controller-from-flags
 use Rattle.ring.specs.Writing as putting
 use Rattle.ring.specs.Answers.{entered_in}
 use Rattle.ring.proofs.write.Reads as ring-write
