@@ -17,7 +17,8 @@ use Rattle.handshake.specs.declared.host.HostPhase.TheVariants as host
 use Rattle.handshake.specs.declared.controller.ControllerPhase.{ControllerPhase}
 use Rattle.handshake.specs.declared.controller.ControllerPhase.TheVariants as controller
 use Rattle.handshake.specs.Phases.{host_number, host_phases, controller_number, controller_phases}
-use Rattle.handshake.specs.Phases.{stored_refusal, stored_number, refusal_in, stored_in, host_refusal, host_stored}
+use Rattle.mctp.specs.Refusals.{outcome_number}
+use Rattle.handshake.specs.Phases.{stored_refusal, stored_number, stored_in, host_refusal, host_stored}
 use Rattle.handshake.specs.Phases.{controller_refusal, controller_stored}
 
 -- the phases in the order of their numbers
@@ -89,7 +90,7 @@ not_good r e = omega (arith, number_positive r)
 
 -- two answers with the same numbers are one answer
 stored_equal : {P : Type 0} (number : P → ℕ) → ((p q : P) → number p ≡ number q → p ≡ q) → (a b : Result P Refusal)
-    → refusal_in a ≡ refusal_in b → stored_in number a ≡ stored_in number b → a ≡ b
+    → outcome_number a ≡ outcome_number b → stored_in number a ≡ stored_in number b → a ≡ b
 stored_equal number injective (Ok p) (Ok q) e n = ap Ok (injective p q n)
 stored_equal number injective (Ok p) (Err r) e n = absurd (not_good r e)
 stored_equal number injective (Err r) (Ok q) e n = absurd (not_good r (sym e))

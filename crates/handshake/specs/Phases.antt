@@ -3,7 +3,7 @@
 use Rattle.std.specs.Prelude.{ℕ, Bool, ltb, eqb, Result, Ok, Err}
 use Rattle.octets.specs.Choice.{pick}
 use Rattle.mctp.specs.declared.refusal.Refusal.{Refusal}
-use Rattle.mctp.specs.Refusals.{number_of}
+use Rattle.mctp.specs.Refusals.{outcome_number}
 use Rattle.handshake.specs.declared.host.HostPhase.{HostPhase}
 use Rattle.handshake.specs.declared.host.HostPhase.TheVariants as host
 use Rattle.handshake.specs.declared.controller.ControllerPhase.{ControllerPhase}
@@ -46,24 +46,19 @@ stored_refusal phases n = pick (ltb n phases) 0 1
 abbrev pub stored_number : (phases n : ℕ) → ℕ
 stored_number phases n = pick (ltb n phases) n 0
 
--- each case of what a number gives out of stored state: its refusal's number, 0 where good, and its phase's, 0 where
--- refused
-abbrev pub refusal_in : {P : Type 0} → Result P Refusal → ℕ
-refusal_in (Ok phase) = 0
-refusal_in (Err refusal) = number_of refusal
-
+-- what a number gives out of stored state: the phase's number, 0 where refused
 abbrev pub stored_in : {P : Type 0} → (P → ℕ) → Result P Refusal → ℕ
 stored_in number (Ok phase) = number phase
 stored_in number (Err refusal) = 0
 
 abbrev pub host_refusal : Result HostPhase Refusal → ℕ
-host_refusal = refusal_in
+host_refusal = outcome_number
 
 abbrev pub host_stored : Result HostPhase Refusal → ℕ
 host_stored = stored_in host_number
 
 abbrev pub controller_refusal : Result ControllerPhase Refusal → ℕ
-controller_refusal = refusal_in
+controller_refusal = outcome_number
 
 abbrev pub controller_stored : Result ControllerPhase Refusal → ℕ
 controller_stored = stored_in controller_number

@@ -3,7 +3,8 @@
 ghost use Rattle.std.specs.Prelude.{◌≡◌, ℕ, Option};
 ghost use Rattle.mmbi.specs.declared.interface.Flags.{Flags};
 ghost use Rattle.handshake.specs.declared.phase.Step.{Step};
-ghost use Rattle.handshake.specs.Phases.{refusal_in, stored_in, stored_refusal, stored_number};
+ghost use Rattle.mctp.specs.Refusals.{outcome_number};
+ghost use Rattle.handshake.specs.Phases.{stored_in, stored_refusal, stored_number};
 
 use mctp::Refusal;
 use mmbi::{Change, Flags};
@@ -44,7 +45,7 @@ pub trait Phase: Copy + Eq {
 
     // The phase that is stored under a number: refused with 1 where it is none.
     fn of_number(n: u8) -> Result<Self, Refusal>
-        ensures number { refusal_in result ≡ stored_refusal phases n }
+        ensures number { outcome_number result ≡ stored_refusal phases n }
         ensures phase { stored_in number_of result ≡ stored_number phases n };
 
     // The phase to start in after power-up. Zeroed storage is another one, running, in which nothing comes up.
