@@ -4,7 +4,6 @@
 mod names;
 mod phases;
 mod runs;
-mod text;
 
 use handshake::{ControllerPhase, HostPhase};
 use runs::{Asker, End, Run};
@@ -45,7 +44,7 @@ For the rest see [RULES.md](RULES.md#reset-handshake), [DECISIONS.md](DECISIONS.
 
 fn main(rt: HostRuntime) {
     if let Err(error) = tell_page(rt) {
-        text::fail(rt, "resets: standard output", error);
+        told::fail(rt, "resets: standard output", error);
     }
 }
 
