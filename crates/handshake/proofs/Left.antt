@@ -8,6 +8,7 @@ use Prim.Native.Nat.{ℕ, zero, suc, ◌+◌, ◌≤◌}
 use native.Mathlib.Omega.{arith}
 use borrow.Author.Tests.{leb-true, eqb-true, le-leb}
 use lib.Dec.{leb, eqb}
+use Rattle.std.specs.List.{list_all}
 use Rattle.octets.specs.Choice.{pick}
 use Rattle.octets.proofs.Choice.{both, implies, implied}
 use Rattle.mmbi.specs.declared.interface.Flags.{Flags}
@@ -24,7 +25,7 @@ use Rattle.handshake.specs.Back.{is_back}
 use Rattle.handshake.specs.Runs.{Ends, End, the_host, the_controller, host_leaves, controller_leaves, stepped, Move}
 use Rattle.handshake.specs.Runs.{steps, asks, moved, after, asked, running}
 use Rattle.handshake.specs.Steps.{host_step, controller_step}
-use Rattle.handshake.proofs.Phases.{hosts, controllers, every_of, every_host, every_controller}
+use Rattle.handshake.proofs.Phases.{hosts, controllers, every_host, every_controller}
 use Rattle.handshake.proofs.Phases.{host_injective, controller_injective}
 use Rattle.handshake.proofs.Waiting.{host_waits_lem, controller_waits_lem}
 
@@ -55,13 +56,13 @@ abbrev ends : Flags → HostPhase → ControllerPhase → Ends
 ends f h c = record { flags = f; host = h; controller = c }
 
 abbrev pub every_ends : (Ends → Bool) → Bool
-every_ends test = every_flags (λ f. every_of (λ h. every_of (λ c. test (ends f h c)) controllers) hosts)
+every_ends test = every_flags (λ f. list_all (λ h. list_all (λ c. test (ends f h c)) controllers) hosts)
 
 pub every_ends_lem : (test : Ends → Bool) → every_ends test ≡ true → (e : Ends) → test e ≡ true
 every_ends_lem test t e =
     every_controller (λ c. test (ends e.flags e.host c))
-    (every_host (λ h. every_of (λ c. test (ends e.flags h c)) controllers)
-    (every_flags_lem (λ f. every_of (λ h. every_of (λ c. test (ends f h c)) controllers) hosts) t e.flags) e.host)
+    (every_host (λ h. list_all (λ c. test (ends e.flags h c)) controllers)
+    (every_flags_lem (λ f. list_all (λ h. list_all (λ c. test (ends f h c)) controllers) hosts) t e.flags) e.host)
     e.controller
 
 -- the way back can be gone to its end

@@ -1,14 +1,15 @@
 -- The phases' numbers: two phases with one number are equal, a test of all is a test of each, and a stored phase reads
 -- back.
 -- Assumes nothing.
-use mathlib.Core.Path.{◌≡◌, refl, ap, sym, subst, ◌∙◌}
-use mathlib.Core.Bool.{Bool, true, ◌&&◌}
+use mathlib.Core.Path.{◌≡◌, refl, ap, sym, ◌∙◌}
+use mathlib.Core.Bool.{Bool, true}
 use mathlib.Core.List.{List, [], ◌∷◌}
-use Prim.Native.Nat.{ℕ, zero, suc}
+use Prim.Native.Nat.{ℕ}
 use native.Mathlib.Omega.{arith}
 use lib.ListN.{get_or}
+use Rattle.std.specs.List.{list_all}
 use Rattle.std.specs.Prelude.{Result, Ok, Err}
-use Rattle.octets.proofs.Choice.{both}
+use Rattle.std.proofs.lemmas.List.Sums.{AllPass-from_list_all}
 use Rattle.mctp.specs.declared.refusal.Refusal.{Refusal}
 use Rattle.mctp.specs.Refusals.{number_of}
 use Rattle.mctp.proofs.Refusals.{number_injective, number_positive}
@@ -61,28 +62,20 @@ host_injective p q e = sym (host_at_lem p) ∙ ap host_at e ∙ host_at_lem q
 pub controller_injective : (p q : ControllerPhase) → controller_number p ≡ controller_number q → p ≡ q
 controller_injective p q e = sym (controller_at_lem p) ∙ ap controller_at e ∙ controller_at_lem q
 
--- a test of every phase, by computation: of every element of a list, and of the one that stands in for the rest
-abbrev pub every_of : {A : Type 0} → (A → Bool) → List A → Bool
-every_of test [] = true
-every_of test (a ∷ l) = test a && every_of test l
+-- a test of every phase, by computation
+pub every_host : (test : HostPhase → Bool) → list_all test hosts ≡ true → (phase : HostPhase) → test phase ≡ true
+every_host test e host.Running = AllPass-from_list_all test hosts e 0 host.Running (omega arith)
+every_host test e host.Asking = AllPass-from_list_all test hosts e 1 host.Running (omega arith)
+every_host test e host.Waiting = AllPass-from_list_all test hosts e 2 host.Running (omega arith)
 
-every_of_lem : {A : Type 0} (test : A → Bool) (d : A) → test d ≡ true → (l : List A) → every_of test l ≡ true → (i : ℕ)
-    → test (get_or l i d) ≡ true
-every_of_lem test d h [] e i = h
-every_of_lem test d h (a ∷ l) e zero = (both (test a) (every_of test l) e).0
-every_of_lem test d h (a ∷ l) e (suc i) = every_of_lem test d h l (both (test a) (every_of test l) e).1 i
-
-pub every_host : (test : HostPhase → Bool) → every_of test hosts ≡ true → (phase : HostPhase) → test phase ≡ true
-every_host test e phase =
-    subst (λ (p : HostPhase). test p ≡ true) (host_at_lem phase)
-    (every_of_lem test host.Running (both (test host.Running) _ e).0 hosts e (host_number phase))
-
-pub every_controller : (test : ControllerPhase → Bool) → every_of test controllers ≡ true → (phase : ControllerPhase)
+pub every_controller : (test : ControllerPhase → Bool) → list_all test controllers ≡ true → (phase : ControllerPhase)
     → test phase ≡ true
-every_controller test e phase =
-    subst (λ (p : ControllerPhase). test p ≡ true) (controller_at_lem phase)
-    (every_of_lem test controller.Running (both (test controller.Running) _ e).0 controllers e
-    (controller_number phase))
+every_controller test e controller.Running = AllPass-from_list_all test controllers e 0 controller.Running (omega arith)
+every_controller test e controller.Asking = AllPass-from_list_all test controllers e 1 controller.Running (omega arith)
+every_controller test e controller.Asked = AllPass-from_list_all test controllers e 2 controller.Running (omega arith)
+every_controller test e controller.Down = AllPass-from_list_all test controllers e 3 controller.Running (omega arith)
+every_controller test e controller.Cleared = AllPass-from_list_all test controllers e 4 controller.Running (omega arith)
+every_controller test e controller.Initializing = AllPass-from_list_all test controllers e 5 controller.Running (omega arith)
 
 -- no refusal has the number 0
 not_good : (r : Refusal) → 0 ≡ number_of r → ⊥
