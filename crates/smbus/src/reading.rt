@@ -61,7 +61,7 @@ fn read_within(most: usize, frame: &[u8], own: u8) -> Result<Packet, Refusal>
         return Err(Refusal::Setup);
     }
     let size = frame.len();
-    if !(10..=9 + most).contains(&size) {
+    if size < 10 || 9 + most < size {
         return Err(Refusal::Size);
     }
     if frame[0] != own * 2 {
