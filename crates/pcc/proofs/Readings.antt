@@ -9,7 +9,7 @@ use borrow.Author.Tests.{eq-eqb}
 use lib.Dec.{eqb}
 use lib.ListN.{length, length-take, length-drop}
 use Rattle.octets.specs.Words.{low_first, word_at}
-use Rattle.octets.proofs.Checks.{FailsAt, answer_at, first_failing_lem, none_failing, all_hold, tests}
+use Rattle.octets.proofs.Checks.{none_failing, all_hold, tests}
 use Rattle.mctp.specs.Packet.{size_right}
 use Rattle.pcc.specs.Layout.{signature_of, command}
 use Rattle.pcc.specs.Reading.{read_order, refusal_of, size_of, packet_of}
@@ -27,11 +27,6 @@ pub record Good (most : ℕ) (region : List ℕ) (id : ℕ) : Type 0 where
   pub held : 12 + word_at low_first region 8 ≤ length region
 
 module _ (most : ℕ) (region : List ℕ) (id : ℕ) where
-  pub refused_at : (i : ℕ) → FailsAt (read_order most region id) i
-      → refusal_of most region id ≡ answer_at (read_order most region id) 0 i
-  unfolding refusal_of
-  refused_at = first_failing_lem (read_order most region id) 0
-
   pub good_number : Good most region id → refusal_of most region id ≡ 0
   unfolding refusal_of
   good_number g = none_failing (read_order most region id) 0 (omega (arith, tests))

@@ -12,7 +12,7 @@ use lib.Dec.{eqb}
 use lib.ListN.{length, length-append}
 use Rattle.octets.specs.Bytes.{laid, fronted}
 use Rattle.octets.specs.Words.{low_first, word_bytes}
-use Rattle.octets.proofs.Checks.{FailsAt, answer_at, first_failing_lem, none_failing, all_hold, tests}
+use Rattle.octets.proofs.Checks.{none_failing, all_hold, tests}
 use Rattle.octets.proofs.Laid.{laid-append, laid_front}
 use Rattle.pcc.specs.Layout.{signature_of, flags_of, length_of, command, region_of}
 use Rattle.pcc.specs.Writing.{write_order, write_refusal, written_of}
@@ -28,11 +28,6 @@ pub record Good (most room id size : ℕ) : Type 0 where
   pub held : 16 + size ≤ room
 
 module _ (most room id size : ℕ) where
-  pub unwritten_at : (i : ℕ) → FailsAt (write_order most room id size) i
-      → write_refusal most room id size ≡ answer_at (write_order most room id size) 0 i
-  unfolding write_refusal
-  unwritten_at = first_failing_lem (write_order most room id size) 0
-
   pub good_number : Good most room id size → write_refusal most room id size ≡ 0
   unfolding write_refusal
   good_number g = none_failing (write_order most room id size) 0 (omega (arith, tests))

@@ -16,8 +16,7 @@ pub fn write(region: &mut [u8], id: u32, notify: bool, packet: &[u8]) -> Result<
         (length packet.now) }
     ensures region { region.new ≡ written_of 64 region.old id notify packet.now }
 {
-    let none = &packet[0..0];
-    write_apart(LARGEST_BODY, region, id, notify, none, packet)
+    write_apart(LARGEST_BODY, region, id, notify, &[], packet)
 }
 
 // A packet whose header and body lie apart, with the largest body as a number: who cuts a message needs no buffer of a

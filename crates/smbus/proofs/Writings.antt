@@ -6,7 +6,7 @@ use Prim.Native.Nat.{ℕ, ◌+◌, ◌≤◌}
 use native.Mathlib.Omega.{arith}
 use lib.Dec.{eqb}
 use Rattle.octets.specs.Checks.{Check}
-use Rattle.octets.proofs.Checks.{FailsAt, answer_at, first_failing_lem, none_failing, all_hold, tests}
+use Rattle.octets.proofs.Checks.{none_failing, all_hold, tests}
 use Rattle.smbus.specs.Writing.{frame_size, write_order, write_refusal}
 
 -- All that the number 0 says of a packet and an output, a line for each check.
@@ -22,10 +22,6 @@ pub record Good (most room size destination source : ℕ) : Type 0 where
 module _ (most room size destination source : ℕ) where
   abbrev order : List (Check ℕ)
   order = write_order most room size destination source
-
-  pub refused_at : (i : ℕ) → FailsAt order i → write_refusal most room size destination source ≡ answer_at order 0 i
-  unfolding write_refusal
-  refused_at = first_failing_lem order 0
 
   pub good_number : Good most room size destination source → write_refusal most room size destination source ≡ 0
   unfolding write_refusal

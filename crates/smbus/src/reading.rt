@@ -1,5 +1,5 @@
 // Reading a frame: one pass over it finds the packet or the refusal, and each question on it asks that pass.
-ghost use Rattle.std.specs.Prelude.{◌≡◌, ◌≤◌, eqb, length};
+ghost use Rattle.std.specs.Prelude.{◌≡◌, ◌<◌, eqb, length};
 ghost use Rattle.pec.specs.Remainder.{pec_of};
 ghost use Rattle.smbus.specs.Reading.{end_of, before_end, refusal_of, packet_of, source_address_of, part_of};
 ghost use Rattle.smbus.specs.Answers.{number_read, source_read};
@@ -61,7 +61,7 @@ fn read_within(most: usize, frame: &[u8], own: u8) -> Result<Packet, Refusal>
         return Err(Refusal::Setup);
     }
     let size = frame.len();
-    if !(10..=9 + most).contains(&size) {
+    if size < 10 || 9 + most < size {
         return Err(Refusal::Size);
     }
     if frame[0] != own * 2 {
@@ -70,7 +70,7 @@ fn read_within(most: usize, frame: &[u8], own: u8) -> Result<Packet, Refusal>
     if frame[1] != 0x0F {
         return Err(Refusal::Command);
     }
-    if frame[2] as usize + 4 != size {
+    if usize::from(frame[2]) + 4 != size {
         return Err(Refusal::Count);
     }
     if frame[3] % 2 != 1 {
@@ -87,9 +87,10 @@ fn read_within(most: usize, frame: &[u8], own: u8) -> Result<Packet, Refusal>
 // Whether the last byte is the PEC of all bytes before it.
 #[tactic(auto, unfolding(crate::specs::Reading::end_of, crate::specs::Reading::before_end))]
 fn ends_right(frame: &[u8]) -> bool
-    requires { 10 ≤ length frame.now }
+    requires { 0 < length frame.now }
     ensures { result ≡ eqb (end_of frame.now) (pec_of (before_end frame.now)) }
 {
-    let end = frame.len() - 1;
-    frame[end] == pec::pec(&frame[0..end])
+    frame
+        .split_last()
+        .is_some_and(|(end, before)| *end == pec::pec(before))
 }

@@ -17,8 +17,7 @@ pub fn write(out: &mut [u8], packet: &[u8], destination: u8, source: u8) -> Resu
     ensures output { out.new
         ≡ written_of 64 out.old packet.now destination source }
 {
-    let none = &packet[0..0];
-    write_apart(LARGEST_BODY, out, none, packet, destination, source)
+    write_apart(LARGEST_BODY, out, &[], packet, destination, source)
 }
 
 // A packet whose header and body lie apart, with the largest body as a number: who cuts a message needs no buffer of a
