@@ -93,6 +93,7 @@ fn judge(
 // The ring's header, the packet's two pieces and the padding, stored one after the other from the write pointer on.
 // Pointers are multiples of 4, as the length is, so the four bytes of the ring's header don't run over the ring's end;
 // a piece may.
+#[tactic(auto, using(crate::proofs::Numbers::next_below))]
 fn fill(ring: &mut [u8], write: usize, header: &[u8], body: &[u8])
     requires { (length ring.old ≤ 65536) × (write + 4 ≤ length ring.old)
         × (length header.now + length body.now ≤ 250)
