@@ -5,13 +5,14 @@ use mathlib.Core.Path.{◌≡◌, ap, sym, ◌∙◌}
 use mathlib.Core.List.{List, ◌++◌, append_assoc, append-nil}
 use mathlib.Core.Logic.{⊎_elim}
 use Prim.Native.Nat.{ℕ, ◌+◌, ◌-◌, ◌≤◌, ◌<◌}
-use native.Mathlib.Nat.{zero-add, sub-zero, add-sub_cancel_left}
+use native.Mathlib.Nat.{zero-add}
 use native.Mathlib.Omega.{arith}
 use lib.ListN.{length, take, drop, length-append, length-take, length-drop, take-append-drop}
 use lib.Seq.{take-append-le, drop-append-le, take-append-add, drop-append-add, take-take, drop-drop, take-add, take_at}
 use lib.Seq.{drop_at, take_all, length-take-le}
 use Rattle.octets.specs.Bytes.{laid, fronted}
-use Rattle.octets.proofs.Laid.{laid_fits, laid_front, laid-append, laid-length}
+use borrow.Rule.Slice.PartMut.{put_mid}
+use Rattle.octets.proofs.Laid.{laid_fits, laid_front, laid-append, laid-length, laid_copied}
 use Rattle.ring.specs.Numbers.{next_of}
 use Rattle.ring.specs.Round.{round_from, stored}
 use Rattle.ring.proofs.Numbers.{next_near, next_over, next_below, next_cases}
@@ -178,56 +179,49 @@ stored_straight ring p bytes h k =
 lent_rest : (s : List ℕ) (m : ℕ) → take (length s - m) (drop m s) ≡ drop m s
 lent_rest s m = take_all (length s - m) (drop m s) (omega (arith, length-drop m s))
 
--- what runs over the end is stored in two, as the two are lent
-pub stored_round : (ring : List ℕ) (p : ℕ) (bytes : List ℕ) → p < length ring → length bytes ≤ length ring
+-- what runs over the end is copied in two
+pub stored_round : (ring : List ℕ) (p : ℕ) (bytes a b : List ℕ) → p < length ring → length bytes ≤ length ring
     → length ring - p < length bytes
-    → laid (laid ring p (take (length ring - p - 0) (drop 0 bytes))) 0
-    (take (length bytes - (length ring - p)) (drop (length ring - p) bytes)) ≡ stored ring p bytes
-stored_round ring p bytes h k over =
+    → a ≡ take (length ring - p) bytes → b ≡ drop (length ring - p) bytes
+    → b ++ drop (length b) (put_mid p (length ring - p) ring a) ≡ stored ring p bytes
+unfolding fronted
+stored_round ring p bytes a b h k over ea eb =
     let m = length ring - p in
     let first : length (take m bytes) ≡ m = length-take-le m bytes (omega arith) in
     let second = length-drop m bytes in
     let size = stored-length ring p (take m bytes) (omega arith) in
     let front : next_of (length ring) p (length (take m bytes)) ≡ 0 =
     next_over (length ring) p (length (take m bytes)) (omega arith) (omega arith) ∙ omega arith in
-    rw (lent_rest bytes m, sub-zero m)
-    (ap (λ (s : List ℕ). laid s 0 (drop m bytes)) (stored_straight ring p (take m bytes) h (omega arith))
+    rw (ea, eb, laid_copied ring p m (take m bytes) (sym first) (omega arith))
+    (sym (laid_front (laid ring p (take m bytes)) (drop m bytes) (omega (arith, laid-length ring p (take m bytes))))
+    ∙ ap (λ (s : List ℕ). laid s 0 (drop m bytes)) (stored_straight ring p (take m bytes) h (omega arith))
     ∙ stored_straight (stored ring p (take m bytes)) 0 (drop m bytes) (omega arith) (omega arith)
     ∙ ap (λ (q : ℕ). stored (stored ring p (take m bytes)) q (drop m bytes)) (sym front)
     ∙ stored_stored ring p h (take m bytes) (drop m bytes) (omega arith)
     ∙ ap (stored ring p) (take-append-drop m bytes))
 
--- so many bytes of the ring, laid to the front
-to_front : (ring : List ℕ) (p n : ℕ) (out : List ℕ) → n ≤ length ring → n ≤ length out
-    → laid out 0 (take n (round_from p ring)) ≡ fronted out (take n (round_from p ring))
-to_front ring p n out h k =
-    laid_front out (take n (round_from p ring))
-    (omega (arith, length-take n (round_from p ring), round-length p ring))
-
--- what ends before the ring's end is copied in one run
-pub copied_straight : (ring : List ℕ) (p n : ℕ) (out : List ℕ) → p + n ≤ length ring → n ≤ length out
-    → laid out 0 (take (p + n - p) (drop p ring)) ≡ fronted out (take n (round_from p ring))
-unfolding round_from
-copied_straight ring p n out h k =
-    rw (add-sub_cancel_left p n)
-    (ap (laid out 0) (sym (take-append-le n (drop p ring) (take p ring) (omega (arith, length-drop p ring))))
-    ∙ to_front ring p n out (omega arith) k)
-
--- what runs over the end in two
-pub copied_round : (ring : List ℕ) (p n : ℕ) (out : List ℕ) → p ≤ length ring → n ≤ length ring → n ≤ length out
+-- and so what is copied out
+pub copied_round : (ring : List ℕ) (p n : ℕ) (out a b : List ℕ) → p ≤ length ring → n ≤ length ring → n ≤ length out
     → length ring < p + n
-    → laid (laid out 0 (take (length ring - p) (drop p ring))) (length ring - p)
-    (take (n - (length ring - p) - 0) (drop 0 ring)) ≡ fronted out (take n (round_from p ring))
-unfolding round_from
-copied_round ring p n out h k l over =
+    → a ≡ take (length ring - p) (drop p ring) → b ≡ take (n - (length ring - p)) ring
+    → put_mid (length ring - p) (n - (length ring - p)) (a ++ drop (length ring - p) out) b
+    ≡ fronted out (take n (round_from p ring))
+unfolding round_from fronted
+copied_round ring p n out a b h k l over ea eb =
     let rest = drop p ring in
     let m = n - (length ring - p) in
-    let long : length ring - p ≡ 0 + length rest = omega (arith, length-drop p ring) in
-    let split : length rest + m ≡ n = omega (arith, length-drop p ring) in
-    rw (lent_rest ring p, sub-zero m)
-    (ap (λ (j : ℕ). laid (laid out 0 rest) j (take m ring)) long
+    let long : length ring - p ≡ length rest = sym (length-drop p ring) in
+    let split : length rest + m ≡ n = omega (arith, long) in
+    let whole : a ≡ rest = ea ∙ take_all (length ring - p) rest (omega (arith, long)) in
+    let front : rest ++ drop (length ring - p) out ≡ laid out 0 rest =
+    ap (λ (j : ℕ). rest ++ drop j out) long ∙ sym (laid_front out rest (omega (arith, long))) in
+    let fits : length (take m ring) ≡ m = length-take-le m ring (omega arith) in
+    let start : length ring - p ≡ 0 + length rest = omega (arith, long) in
+    rw (whole, eb, front, laid_copied (laid out 0 rest) (length ring - p) m (take m ring) (sym fits) (omega (arith, laid-length out 0 rest)))
+    (ap (λ (j : ℕ). laid (laid out 0 rest) j (take m ring)) start
     ∙ sym (laid-append out 0 rest (take m ring))
     ∙ ap (λ (s : List ℕ). laid out 0 (rest ++ s)) (sym (take-take m p ring (omega arith)))
     ∙ ap (laid out 0) (sym (take-append-add rest (take p ring) m))
-    ∙ ap (λ (j : ℕ). laid out 0 (take j (round_from p ring))) split
-    ∙ to_front ring p n out k l)
+    ∙ ap (λ (j : ℕ). laid out 0 (take j (rest ++ take p ring))) split
+    ∙ laid_front out (take n (rest ++ take p ring))
+    (omega (arith, length-take n (rest ++ take p ring), round-length p ring)))

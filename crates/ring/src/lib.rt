@@ -2,9 +2,11 @@
 #![tactic(auto)]
 
 mod number;
+mod offer;
 mod reading;
 mod round;
 mod writing;
 
+pub use offer::Offered;
 pub use reading::{Found, read};
 pub use writing::{write, write_apart};

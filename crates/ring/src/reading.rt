@@ -6,9 +6,9 @@ ghost use Rattle.ring.specs.Reading.{judged, found_of, output_of};
 ghost use Rattle.ring.specs.Answers.{found_in};
 
 use crate::number::Pointed;
+use crate::offer::Offered;
 use crate::{number, round};
 use mctp::Refusal;
-use mmbi::{Flags, Pointers};
 use octets::HighFirst;
 
 // What a ring holds at its read pointer.
@@ -24,46 +24,28 @@ pub enum Found {
 
 // The packet at the read pointer, copied to the output's front; 11 unless the interface is in normal runtime, or one
 // end alone asks for a reset.
-pub fn read(
-    ring: &[u8],
-    configured: usize,
-    flags: Flags,
-    pointers: Pointers,
-    out: &mut [u8],
-) -> Result<Found, Refusal>
-    ensures answer { found_in result ≡ found_of 64 ring.now configured (may_read (state_of flags))
-        pointers.read pointers.write (length out.old) }
-    ensures output { out.new ≡ output_of 64 ring.now configured (may_read (state_of flags))
-        pointers.read pointers.write out.old }
+pub fn read(ring: &[u8], offered: Offered, out: &mut [u8]) -> Result<Found, Refusal>
+    ensures answer { found_in result ≡ found_of 64 ring.now offered.configured
+        (may_read (state_of offered.flags)) offered.pointers.read offered.pointers.write
+        (length out.old) }
+    ensures output { out.new ≡ output_of 64 ring.now offered.configured
+        (may_read (state_of offered.flags)) offered.pointers.read offered.pointers.write out.old }
 {
-    let readable = mmbi::may_read(mmbi::state(flags));
-    read_within(
-        mctp::LARGEST_BODY,
-        ring,
-        configured,
-        readable,
-        pointers,
-        out,
-    )
+    read_within(mctp::LARGEST_BODY, ring, offered, out)
 }
 
 // Reading with the largest body as a number.
-fn read_within(
-    most: usize,
-    ring: &[u8],
-    configured: usize,
-    readable: bool,
-    pointers: Pointers,
-    out: &mut [u8],
-) -> Result<Found, Refusal>
-    ensures answer { found_in result ≡ found_of most ring.now configured readable pointers.read pointers.write
+fn read_within(most: usize, ring: &[u8], offered: Offered, out: &mut [u8]) -> Result<Found, Refusal>
+    ensures answer { found_in result ≡ found_of most ring.now offered.configured
+        (may_read (state_of offered.flags)) offered.pointers.read offered.pointers.write
         (length out.old) }
-    ensures output { out.new ≡ output_of most ring.now configured readable pointers.read pointers.write
-        out.old }
+    ensures output { out.new ≡ output_of most ring.now offered.configured
+        (may_read (state_of offered.flags)) offered.pointers.read offered.pointers.write out.old }
 {
-    let found = find(most, ring, configured, readable, pointers, out.len())?;
+    let found = find(most, ring, offered, out.len())?;
     if let Found::Packet { size, .. } = found {
-        round::copy_out(ring, number::next(configured, pointers.read, 4), size, out);
+        let at = number::next(offered.configured, offered.pointers.read, 4);
+        round::copy_out(ring, at, size, out);
     }
     Ok(found)
 }
@@ -71,26 +53,20 @@ fn read_within(
 // What reading finds; nothing is copied yet. Pointers are multiples of 4, as the length is, so the four bytes of a
 // header don't run over the ring's end.
 #[tactic(auto, using(crate::proofs::Headers::header_straight), unfolding(crate::specs::Reading::found_of))]
-fn find(
-    most: usize,
-    ring: &[u8],
-    configured: usize,
-    readable: bool,
-    pointers: Pointers,
-    output: usize,
-) -> Result<Found, Refusal>
-    ensures { found_in result ≡ found_of most ring.now configured readable pointers.read pointers.write output }
+fn find(most: usize, ring: &[u8], offered: Offered, output: usize) -> Result<Found, Refusal>
+    ensures { found_in result ≡ found_of most ring.now offered.configured
+        (may_read (state_of offered.flags)) offered.pointers.read offered.pointers.write output }
 {
-    if !number::set_up_right(most, configured, ring.len()) {
+    if !number::set_up_right(most, offered.configured, ring.len()) {
         return Err(Refusal::Setup);
     }
     if output < 4 + most {
         return Err(Refusal::Room);
     }
-    if !readable {
+    if !offered.is_readable() {
         return Err(Refusal::NotRunning);
     }
-    let at = Pointed::new(configured, pointers)?;
+    let at = Pointed::new(offered.configured, offered.pointers)?;
     if at.read == at.write {
         return Ok(Found::Empty);
     }

@@ -7,34 +7,21 @@ ghost use Rattle.ring.specs.Writing.{entered_of, written_of};
 ghost use Rattle.ring.specs.Answers.{entered_in};
 
 use crate::number::Pointed;
+use crate::offer::Offered;
 use crate::{number, round};
 use mctp::Refusal;
-use mmbi::{Flags, Pointers};
 use octets::HighFirst;
 
 // A packet put into the ring at the write pointer, which then stands at the answer; 11 unless the interface is in
 // normal runtime.
-pub fn write(
-    ring: &mut [u8],
-    configured: usize,
-    flags: Flags,
-    pointers: Pointers,
-    packet: &[u8],
-) -> Result<usize, Refusal>
-    ensures answer { entered_in result ≡ entered_of 64 (length ring.old) configured
-        (may_write (state_of flags)) pointers.read pointers.write (length packet.now) }
-    ensures ring { ring.new ≡ written_of 64 ring.old configured (may_write (state_of flags))
-        pointers.read pointers.write packet.now }
+pub fn write(ring: &mut [u8], offered: Offered, packet: &[u8]) -> Result<usize, Refusal>
+    ensures answer { entered_in result ≡ entered_of 64 (length ring.old) offered.configured
+        (may_write (state_of offered.flags)) offered.pointers.read offered.pointers.write
+        (length packet.now) }
+    ensures ring { ring.new ≡ written_of 64 ring.old offered.configured
+        (may_write (state_of offered.flags)) offered.pointers.read offered.pointers.write packet.now }
 {
-    write_apart(
-        mctp::LARGEST_BODY,
-        ring,
-        configured,
-        flags,
-        pointers,
-        &[],
-        packet,
-    )
+    write_apart(mctp::LARGEST_BODY, ring, offered, &[], packet)
 }
 
 // A packet whose header and body lie apart, put into the ring at the write pointer, with the largest body as a number.
@@ -42,57 +29,49 @@ pub fn write(
 pub fn write_apart(
     most: usize,
     ring: &mut [u8],
-    configured: usize,
-    flags: Flags,
-    pointers: Pointers,
+    offered: Offered,
     header: &[u8],
     body: &[u8],
 ) -> Result<usize, Refusal>
-    ensures answer { entered_in result ≡ entered_of most (length ring.old) configured
-        (may_write (state_of flags)) pointers.read pointers.write
+    ensures answer { entered_in result ≡ entered_of most (length ring.old) offered.configured
+        (may_write (state_of offered.flags)) offered.pointers.read offered.pointers.write
         (length (header.now ++ body.now)) }
-    ensures ring { ring.new ≡ written_of most ring.old configured (may_write (state_of flags))
-        pointers.read pointers.write (header.now ++ body.now) }
+    ensures ring { ring.new ≡ written_of most ring.old offered.configured
+        (may_write (state_of offered.flags)) offered.pointers.read offered.pointers.write
+        (header.now ++ body.now) }
 {
-    let running = mmbi::may_write(mmbi::state(flags));
-    let size = header.len() + body.len();
-    let next = judge(most, ring.len(), configured, running, pointers, size)?;
-    fill(ring, pointers.write, header, body);
+    let next = judge(most, ring.len(), offered, header.len() + body.len())?;
+    fill(ring, offered.pointers.write, header, body);
     Ok(next)
 }
 
 // What writing answers, from the packet's size alone; nothing is stored yet.
 #[tactic(auto, using(crate::proofs::Numbers::room_below), unfolding(crate::specs::Writing::entered_of))]
-fn judge(
-    most: usize,
-    lent: usize,
-    configured: usize,
-    running: bool,
-    pointers: Pointers,
-    size: usize,
-) -> Result<usize, Refusal>
-    ensures { entered_in result ≡ entered_of most lent configured running pointers.read pointers.write size }
+fn judge(most: usize, lent: usize, offered: Offered, size: usize) -> Result<usize, Refusal>
+    ensures { entered_in result ≡ entered_of most lent offered.configured
+        (may_write (state_of offered.flags)) offered.pointers.read offered.pointers.write size }
 {
-    if !number::set_up_right(most, configured, lent) {
+    if !number::set_up_right(most, offered.configured, lent) {
         return Err(Refusal::Setup);
     }
     if !mctp::size_right(most, size) {
         return Err(Refusal::Size);
     }
-    if !running {
+    if !offered.is_writable() {
         return Err(Refusal::NotRunning);
     }
-    let at = Pointed::new(configured, pointers)?;
+    let at = Pointed::new(offered.configured, offered.pointers)?;
     let whole = 4 + size + padding_for(size);
     if at.room() < whole {
         return Err(Refusal::Room);
     }
-    Ok(number::next(configured, pointers.write, whole))
+    Ok(number::next(at.length, at.write, whole))
 }
 
 // The ring's header, the packet's two pieces and the padding, stored one after the other from the write pointer on.
 // Pointers are multiples of 4, as the length is, so the four bytes of the ring's header don't run over the ring's end;
 // a piece may.
+#[tactic(auto, using(crate::proofs::Numbers::next_below))]
 fn fill(ring: &mut [u8], write: usize, header: &[u8], body: &[u8])
     requires { (length ring.old ≤ 65536) × (write + 4 ≤ length ring.old)
         × (length header.now + length body.now ≤ 250)

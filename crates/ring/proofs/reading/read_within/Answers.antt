@@ -19,18 +19,18 @@ packet : {f : Found} {r : reading.Found} {size next : ℕ} → found_in (Ok f) �
     → r ≡ reading.packet size next
 packet e is = sym e ∙ ap (λ (f : Found). found_in (Ok f)) is
 
-pub next-requires : goal.next-requires
-next-requires c =
+pub next-at-requires : goal.next-at-requires
+next-at-requires c =
     let g = good _ _ _ _ _ _ _ _ _ (packet c.in_ok-found.ensures c.in-Packet.is) in
     (g.set_up.size.high, g.from.below, omega (arith, g.set_up.size.low))
 
 pub copy_out-requires : goal.copy_out-requires
 copy_out-requires c =
-    rw c.next.ensures (good_copied _ _ _ _ _ _ _ _ _ (good _ _ _ _ _ _ _ _ _ (packet c.in_ok-found.ensures c.in-Packet.is)))
+    rw c.next-at.ensures (good_copied _ _ _ _ _ _ _ _ _ (good _ _ _ _ _ _ _ _ _ (packet c.in_ok-found.ensures c.in-Packet.is)))
 
 pub returns-in-Packet-clause-output : goal.returns-in-Packet-clause-output
 returns-in-Packet-clause-output c =
     let g = good _ _ _ _ _ _ _ _ _ (packet c.in_ok-found.ensures c.in-Packet.is) in
     c.copy_out.ensures
-    ∙ ap (λ (p : ℕ). fronted c.args.out.now (take c.in-Packet.size (round_from p c.args.ring.now))) c.next.ensures
+    ∙ ap (λ (p : ℕ). fronted c.args.out.now (take c.in-Packet.size (round_from p c.args.ring.now))) c.next-at.ensures
     ∙ good_output _ _ _ _ _ _ _ _ _ g c.args.out.now refl

@@ -6,13 +6,12 @@ use mathlib.Core.List.{List, [], ◌∷◌, ◌++◌, append_assoc}
 use Prim.Native.Nat.{ℕ, zero, suc, ◌+◌, ◌-◌, ◌≤◌, ◌<◌}
 use native.Mathlib.Nat.{sub-zero}
 use native.Mathlib.Omega.{arith}
-use lib.ListN.{length, take, replicate, length-append, length-take, length-replicate}
+use lib.ListN.{length, take, replicate, length-append, length-replicate}
 use Rattle.octets.specs.Bytes.{laid}
 use Rattle.octets.specs.Words.{high_first, word_bytes}
 use Rattle.ring.specs.Numbers.{next_of}
 use Rattle.ring.specs.Layout.{padding_for, whole_for, header_for, ring_bytes}
 use Rattle.ring.specs.Round.{stored}
-use Rattle.ring.proofs.Numbers.{next_below}
 use Rattle.octets.proofs.Words.{word-length}
 use Rattle.ring.proofs.Rounds.{stored_straight, stored_stored}
 use Rattle.ring.proofs.writing.fill.Goals as goal
@@ -55,28 +54,6 @@ module _ (ring : List ℕ) (p : ℕ) (straight : p + 4 ≤ length ring) where
         let s2 = piece (w ++ header) body s1 two e2 (omega arith) f2 in
         let s3 = piece (w ++ header ++ body) pad s2 three e3 (omega arith) (rw front at f3) in
         rw (length-append header body, ← ew, ← ep) (s3 ∙ simp append_assoc)
-
-pub copy_in-requires : goal.copy_in-requires
-copy_in-requires c =
-    let a = c.args in (
-      omega (arith, next_below (length a.ring.now) a.write 4 (omega arith)),
-      omega arith,
-    )
-
-pub copy_in-requires-2 : goal.copy_in-requires-2
-copy_in-requires-2 c =
-    let a = c.args in (
-      omega (arith, next_below (length a.ring.now) a.write (4 + length a.header.now) (omega arith)),
-      omega arith,
-    )
-
-pub copy_in-requires-3 : goal.copy_in-requires-3
-copy_in-requires-3 c =
-    let a = c.args in
-    let size = length a.header.now + length a.body.now in (
-      omega (arith, next_below (length a.ring.now) a.write (4 + size) (omega arith)),
-      omega (arith, length-take (c.padding_for-padding.result - 0) zeros),
-    )
 
 pub returns : goal.returns
 returns c =
