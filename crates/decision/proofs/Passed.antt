@@ -4,16 +4,19 @@ use mathlib.Core.Path.{◌≡◌, refl, ap, ◌∙◌}
 use mathlib.Core.Bool.{Bool, true, false, ◌&&◌, true≢false}
 use mathlib.Core.List.{List, ◌++◌}
 use Prim.Native.Nat.{ℕ, ◌+◌, ◌≤◌}
+use native.Mathlib.Omega.{arith}
 use lib.Dec.{eqb, ltb, lit≤}
 use lib.ListN.{length}
 use Rattle.octets.specs.Choice.{pick}
-use Rattle.octets.specs.Checks.{first_failing}
-use Rattle.octets.proofs.Choice.{pick_elim}
-use Rattle.octets.proofs.Checks.{every_answer}
+use Rattle.std.proofs.Common.{Ok}
+use Rattle.octets.specs.Checks.{Check, first_failing}
+use Rattle.octets.proofs.Choice.{pick_elim, within_bounds}
+use Rattle.octets.proofs.Checks.{Hold, apart, all_hold, every_answer}
 use Rattle.mctp.specs.declared.packet.Key.{Key}
 use Rattle.mctp.specs.declared.packet.Header.{Header}
 use Rattle.mctp.specs.Packet.{body_of}
 use Rattle.mctp.specs.Key.{header_of}
+use Rattle.slots.specs.declared.state.Setup.{Setup}
 use Rattle.slots.specs.declared.state.Slot.{Slot}
 use Rattle.slots.specs.declared.state.SlotState.{SlotState}
 use Rattle.slots.specs.declared.state.SlotState.TheVariants.{Free, Gathering}
@@ -25,7 +28,7 @@ use Rattle.slots.proofs.Ages.{expired_right}
 use Rattle.decision.specs.Checks.{setup_order, packet_order, source_order}
 use Rattle.decision.specs.Rules.{Decision, refuse, release, put, after, on_start, gather_order, gathered}
 use Rattle.decision.specs.Rules.{follow, on_follow, ruled}
-use Rattle.decision.specs.Decision.{aged_of, decided}
+use Rattle.decision.specs.Decision.{OutcomeOf, aged_of, decided}
 
 -- a decision that no check makes
 abbrev pub none : Decision
@@ -35,6 +38,24 @@ abbrev pub is_put : Decision → Bool
 is_put (refuse n) = false
 is_put (release slot n) = false
 is_put (put slot at again then) = true
+
+-- a good outcome says that every test held
+good_holds : (order : List (Check Decision)) → apart is_put order ≡ true → OutcomeOf order (Ok tt) → Hold order
+good_holds order away good = all_hold is_put order none away (ap is_put (good none))
+
+-- so behind the packet's own checks its size is known, and behind 1 and 2 the state is right and the memory whole
+pub packet_sized : (most : ℕ) (s : Setup) (p : List ℕ)
+    → OutcomeOf (packet_order most s p ++ source_order p) (Ok tt) → most ≤ 246
+    → (5 ≤ length p) × (length p ≤ 250)
+packet_sized most s p good h =
+    let held = good_holds (packet_order most s p ++ source_order p) refl good in
+    omega (arith, within_bounds 5 (4 + most) (length p) held.0)
+
+pub setup_passed : (most : ℕ) (r : Receiver) (size : ℕ) → OutcomeOf (setup_order most r size) (Ok tt)
+    → (right_state most r ≡ true) × (eqb size 4096 ≡ true)
+setup_passed most r size good =
+    let held = good_holds (setup_order most r size) refl good in
+    (held.0, held.1.0)
 
 -- two checks that refuse with one number, whatever comes behind them: one of them fails
 one_fails : (a b : Bool) (n : ℕ) → ((d : Decision) → pick a (pick b d (refuse 2)) (refuse 1) ≡ refuse n)

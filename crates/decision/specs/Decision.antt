@@ -1,7 +1,7 @@
 -- The decision on a packet: the checks in their order, then the rules. It sees the memory's size and none of its bytes.
 -- Before it, old slots are freed (document 02, #106).
 -- Assumes nothing.
-use Rattle.std.specs.Prelude.{ℕ, ◌&&◌, List, ◌++◌, eqb, length, ◌≡◌}
+use Rattle.std.specs.Prelude.{ℕ, ◌&&◌, List, ◌++◌, eqb, length, ◌≡◌, Result, Ok, Err}
 use Rattle.octets.specs.Choice.{pick}
 use Rattle.octets.specs.Checks.{Check, first_failing}
 use Rattle.mctp.specs.Packet.{body_of}
@@ -9,8 +9,7 @@ use Rattle.mctp.specs.Key.{header_of}
 use Rattle.slots.specs.declared.state.Receiver.{Receiver}
 use Rattle.slots.specs.State.{right_state}
 use Rattle.slots.specs.Ages.{expired}
-use Rattle.mctp.specs.declared.refusal.Outcome.{Outcome}
-use Rattle.mctp.specs.declared.refusal.Outcome.TheVariants.{Good, Refused}
+use Rattle.mctp.specs.declared.refusal.Refusal.{Refusal}
 use Rattle.mctp.specs.Refusals.{number_of}
 use Rattle.decision.specs.Checks.{setup_order, packet_order, source_order}
 use Rattle.decision.specs.Rules.{refuse, Decision, ruled}
@@ -20,12 +19,12 @@ abbrev pub check_order : (most : ℕ) → Receiver → (size : ℕ) → (packet 
 check_order most r size p = setup_order most r size ++ (packet_order most r.setup p ++ source_order p)
 
 -- the outcome of the checks, before what the rules decide
-abbrev pub unless_refused : Outcome → Decision → Decision
-unless_refused Good d = d
-unless_refused (Refused why) d = refuse (number_of why)
+abbrev pub unless_refused : Result (Unit {0}) Refusal → Decision → Decision
+unless_refused (Ok good) d = d
+unless_refused (Err why) d = refuse (number_of why)
 
 -- this is the outcome of a check order, whatever comes behind it
-abbrev pub OutcomeOf : List (Check Decision) → Outcome → Type 0
+abbrev pub OutcomeOf : List (Check Decision) → Result (Unit {0}) Refusal → Type 0
 OutcomeOf order r = (d : Decision) → first_failing order d ≡ unless_refused r d
 
 -- "Before anything but checks 1 and 2, every slot whose age exceeds a set limit of 1 to 60,000 is freed, whatever the

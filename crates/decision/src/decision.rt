@@ -9,7 +9,7 @@ ghost use Rattle.decision.specs.Rules.{planned, ruled};
 ghost use Rattle.decision.specs.Decision.{OutcomeOf, aged_of, decided};
 
 use crate::rules::{Plan, rule};
-use mctp::{Outcome, Refusal};
+use mctp::Refusal;
 use slots::{Receiver, Setup};
 
 // The receiver without its old slots, and what is to be done with the packet there.
@@ -41,19 +41,16 @@ pub fn decide_within(
     ensures plan { planned result.plan
         ≡ decided most (aged_of most time receiver size) size packet.now }
 {
-    let ready = check_setup(most, receiver, size);
-    match ready {
-        Outcome::Refused(refusal) => Decided {
+    if let Err(refusal) = check_setup(most, receiver, size) {
+        return Decided {
             plan: Plan::Refuse(refusal),
-            receiver: receiver,
-        },
-        Outcome::Good => {
-            let aged = slots::expired(receiver, time);
-            Decided {
-                plan: decide_packet(most, aged, packet),
-                receiver: aged,
-            }
-        }
+            receiver,
+        };
+    }
+    let aged = slots::expired(receiver, time);
+    Decided {
+        plan: decide_packet(most, aged, packet),
+        receiver: aged,
     }
 }
 
@@ -65,43 +62,42 @@ fn decide_packet(most: usize, receiver: Receiver, packet: &[u8]) -> Plan
         ≡ first_failing (packet_order most receiver.setup packet.now ++ source_order packet.now)
         (ruled receiver.slots (header_of packet.now) (length (body_of packet.now))) }
 {
-    let checked = check_packet(most, receiver.setup, packet);
-    match checked {
-        Outcome::Refused(refusal) => Plan::Refuse(refusal),
-        Outcome::Good => rule(receiver, mctp::header_of(packet), (packet.len() - 4) as u8),
+    match check_packet(most, receiver.setup, packet) {
+        Err(refusal) => Plan::Refuse(refusal),
+        Ok(()) => rule(receiver, mctp::header_of(packet), (packet.len() - 4) as u8),
     }
 }
 
 // 1 and 2.
-fn check_setup(most: usize, receiver: Receiver, size: usize) -> Outcome
+fn check_setup(most: usize, receiver: Receiver, size: usize) -> Result<(), Refusal>
     ensures { OutcomeOf (setup_order most receiver size) result }
 {
     if !slots::right_within(most, receiver) {
-        return Outcome::Refused(Refusal::Setup);
+        return Err(Refusal::Setup);
     }
     if size != 4096 {
-        return Outcome::Refused(Refusal::Room);
+        return Err(Refusal::Room);
     }
-    Outcome::Good
+    Ok(())
 }
 
 // 3, 15, 16 and 17.
-fn check_packet(most: usize, setup: Setup, packet: &[u8]) -> Outcome
+#[tactic(auto, unfolding(mctp::specs::Key::header_of, mctp::specs::Key::key_of))]
+fn check_packet(most: usize, setup: Setup, packet: &[u8]) -> Result<(), Refusal>
     ensures { OutcomeOf (packet_order most setup packet.now ++ source_order packet.now) result }
 {
     if !mctp::size_right(most, packet.len()) {
-        return Outcome::Refused(Refusal::Size);
+        return Err(Refusal::Size);
     }
     let header = mctp::header_of(packet);
-    let key = header.key;
     if header.version != 1 {
-        return Outcome::Refused(Refusal::Version);
+        return Err(Refusal::Version);
     }
-    if !slots::ours(setup, key.destination) {
-        return Outcome::Refused(Refusal::NotOurs);
+    if !slots::ours(setup, header.key.destination) {
+        return Err(Refusal::NotOurs);
     }
-    if !key.source.is_endpoint() {
-        return Outcome::Refused(Refusal::Source);
+    if !header.key.source.is_endpoint() {
+        return Err(Refusal::Source);
     }
-    Outcome::Good
+    Ok(())
 }

@@ -24,6 +24,7 @@ pub enum Plan {
     },
 }
 
+#[tactic(auto, unfolding(crate::specs::Rules::ruled))]
 pub fn rule(receiver: Receiver, header: Header, body: u8) -> Plan
     ensures { planned result ≡ ruled receiver.slots header body }
 {
@@ -33,74 +34,72 @@ pub fn rule(receiver: Receiver, header: Header, body: u8) -> Plan
     on_follow(receiver, header, body)
 }
 
+#[tactic(auto, unfolding(crate::specs::Rules::on_start))]
 fn on_start(receiver: Receiver, header: Header, body: u8) -> Plan
     ensures { planned result ≡ on_start receiver.slots header body }
 {
-    let then = state_after(header, body, body as u16);
-    let own = slots::slot_of(receiver, header.key);
-    if own < 4 {
+    let then = state_after(header, body, u16::from(body));
+    if let Some(slot) = slots::slot_of(receiver, header.key) {
         return Plan::Put {
-            slot: own,
+            slot,
             at: 0,
             again: true,
-            then: then,
+            then,
         };
     }
-    let free = slots::lowest_free(receiver);
-    if free < 4 {
+    if let Some(slot) = slots::lowest_free(receiver) {
         return Plan::Put {
-            slot: free,
+            slot,
             at: 0,
             again: false,
-            then: then,
+            then,
         };
     }
     Plan::Refuse(Refusal::NoSlot)
 }
 
-// Where no slot has the key there is none of its number, and that reads as free.
+#[tactic(auto, unfolding(crate::specs::Rules::on_follow))]
 fn on_follow(receiver: Receiver, header: Header, body: u8) -> Plan
     ensures { planned result ≡ on_follow receiver.slots header body }
 {
-    let slot = slots::slot_of(receiver, header.key);
-    let state = slots::state_at(receiver, slot as usize);
-    match state {
-        SlotState::Free => Plan::Refuse(Refusal::NoStart),
-        SlotState::Gathering {
-            key: _,
+    if let Some(slot) = slots::slot_of(receiver, header.key)
+        && let SlotState::Gathering {
             sequence,
             unit,
             held,
-        } => { gather(slot, sequence, unit, held, header, body) }
+            ..
+        } = slots::state_at(receiver, usize::from(slot))
+    {
+        return gather(slot, sequence, unit, held, header, body);
     }
+    Plan::Refuse(Refusal::NoStart)
 }
 
+#[tactic(auto, unfolding(crate::specs::Rules::gathered))]
 fn gather(slot: u8, sequence: u8, unit: u8, held: u16, header: Header, body: u8) -> Plan
     ensures { planned result ≡ gathered slot sequence unit held header body }
 {
-    let next = (sequence as u32 + 1) % 4;
-    let got = header.sequence as u32;
-    if got != next {
+    if u32::from(header.sequence) != (u32::from(sequence) + 1) % 4 {
         return Plan::Release {
-            slot: slot,
+            slot,
             refusal: Refusal::Sequence,
         };
     }
     if !unit_right(header.end, unit, body) {
         return Plan::Release {
-            slot: slot,
+            slot,
             refusal: Refusal::Unit,
         };
     }
-    let total = held as u32 + body as u32;
+    let total = u32::from(held) + u32::from(body);
     if 1024 < total {
         return Plan::Release {
-            slot: slot,
+            slot,
             refusal: Refusal::TooLong,
         };
     }
     Plan::Put {
-        slot: slot,
+        slot,
         at: held,
         again: false,
         then: state_after(header, unit, total as u16),
@@ -113,17 +112,17 @@ fn unit_right(end: bool, unit: u8, body: u8) -> bool
     if end { body <= unit } else { body == unit }
 }
 
+#[tactic(auto, unfolding(crate::specs::Rules::after))]
 fn state_after(header: Header, unit: u8, held: u16) -> SlotState
     ensures { result ≡ after header unit held }
 {
     if header.end {
         return SlotState::Free;
     }
-    let key = header.key;
     SlotState::Gathering {
-        key: key,
+        key: header.key,
         sequence: header.sequence,
-        unit: unit,
-        held: held,
+        unit,
+        held,
     }
 }
