@@ -1,6 +1,5 @@
 pub mod Sends
 pub mod Drains
-pub mod Fills
 pub mod Closings
 pub mod Turns
 pub mod Runs

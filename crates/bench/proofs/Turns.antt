@@ -1,93 +1,83 @@
 -- One turn: what came stands behind the bytes held, and the rest of both is held.
 -- Assumes nothing.
 use mathlib.Core.Path.{◌≡◌, ap, sym, ◌∙◌}
-use mathlib.Core.Bool.{Bool, not, ◌&&◌}
+use mathlib.Core.Bool.{Bool, ◌&&◌}
 use mathlib.Core.List.{List, ◌++◌}
-use mathlib.Core.Logic.{by_cases}
-use Prim.Native.Nat.{ℕ, ◌-◌, ◌≤◌, ◌<◌}
-use native.Mathlib.Decide.{dec_lt}
-use native.Mathlib.Nat.{sub-zero}
+use Prim.Native.Nat.{ℕ, ◌+◌, ◌≤◌, ◌<◌}
 use native.Mathlib.Omega.{arith}
-use borrow.Author.Tests.{lt-ltb, le-ltb}
 use lib.Dec.{ltb}
 use lib.ListN.{length, take, drop, length-append, length-drop, take-append-drop}
 use lib.Seq.{length-take-le, take-take}
-use Rattle.octets.specs.Bytes.{Below}
-use Rattle.octets.proofs.Below.{below-take}
+use Rattle.std.specs.Prelude.{is_ok}
 use Rattle.records.specs.Record.{joined, records_of, rest_of}
-use Rattle.records.proofs.Walks.{records_split, rest_behind, rest_short}
-use Rattle.transcript.specs.declared.state.State.{State}
+use Rattle.records.proofs.Walks.{records_split, rest_behind}
+use Rattle.transcript.specs.Frame.{Ran}
+use Rattle.transcript.specs.Taking.{run_on}
 use Rattle.transcript.specs.Front.{between, moved_of}
 use Rattle.transcript.proofs.Fronts.{between_is, moved_front}
-use Rattle.bench.specs.declared.sending.Sent.{Sent}
-use Rattle.bench.specs.declared.Filled.{Filled}
-use Rattle.bench.specs.declared.Drained.{Drained}
-use Rattle.bench.specs.Main.{Turns}
-use Rattle.bench.proofs.Drains.{Drains}
+use Rattle.bench.specs.declared.Bench.{Bench}
+use Rattle.bench.specs.Main.{held_of, Stays, Drains, Turns}
 
--- two differences are above 0 together
-same_test : (a b n : ℕ) → n ≡ b - a → ltb a b ≡ ltb 0 n
-same_test a b n e =
-    by_cases (dec_lt a b)
-    (λ (h : a < b). rw (lt-ltb a b h, lt-ltb 0 n (omega arith)))
-    (λ (h : a < b → ⊥). rw (le-ltb a b (omega arith), le-ltb 0 n (omega arith)))
-
--- with what `fill` promises
-module _ (input : List ℕ) (held : ℕ) (f : Filled) (filled : List ℕ)
-    (p : (take held filled ≡ take held input) × ((held ≤ f.end) × (f.end ≤ length filled))) where
+-- with what `fill` and `drain` promise
+module _ (b f d : Bench) (came read : ℕ) (stays : Stays b f) (within : f.held + came ≤ length f.input)
+    (drains : Drains f (take (f.held + came) f.input) read d) where
   -- all that is there, and what of it came
   abbrev all : List ℕ
-  all = take f.end filled
+  all = take (f.held + came) f.input
 
-  abbrev came : List ℕ
-  came = drop held all
+  abbrev bytes : List ℕ
+  bytes = drop f.held all
 
-  sized : length all ≡ f.end
-  sized = length-take-le f.end filled p.1.1
+  sized : length all ≡ f.held + came
+  sized = length-take-le (f.held + came) f.input within
 
-  parted : all ≡ take held input ++ came
+  parted : all ≡ held_of b ++ bytes
   parted =
-      sym (take-append-drop held all)
-      ∙ ap (λ (l : List ℕ). l ++ came) (take-take held f.end filled p.1.0 ∙ p.0)
+      sym (take-append-drop f.held all)
+      ∙ ap (λ (l : List ℕ). l ++ bytes) (take-take f.held (f.held + came) f.input (omega arith) ∙ stays.bytes)
 
-  came_size : length came ≡ f.end - held
-  came_size = rw (length-drop, sized)
+  came_size : length bytes ≡ came
+  came_size = rw (length-drop, sized) (omega arith)
 
   -- the records stand within what is there
-  taken : length (joined (records_of all)) ≤ f.end
-  taken = omega (arith, sized, ap length (records_split all), length-append (joined (records_of all)) (rest_of all))
+  taken : read ≤ f.held + came
+  taken =
+      omega (
+        arith,
+        drains.read,
+        sized,
+        ap length (records_split all),
+        length-append (joined (records_of all)) (rest_of all),
+      )
 
   -- what is moved to the front is the rest
-  moved : (read : ℕ) → read ≡ length (joined (records_of all)) → between filled read f.end ≡ rest_of all
-  moved read e =
-      between_is filled read f.end (omega (arith, taken)) (omega (arith, taken, p.1.1))
-      ∙ ap (λ (n : ℕ). drop n all) e
+  moved : between d.input read (f.held + came) ≡ rest_of all
+  moved =
+      ap (λ (l : List ℕ). between l read (f.held + came)) drains.input
+      ∙ between_is f.input read (f.held + came) taken (omega (arith, taken, within))
+      ∙ ap (λ (n : ℕ). drop n all) drains.read
       ∙ rest_behind all
 
-  pub turned : (s : State) (m : List ℕ) (earlier : Sent) → Below 256 filled → (d : Drained) (after : List ℕ)
-      → Drains s m (take (f.end - 0) filled) earlier d after
-      → {rest : ℕ} {left : List ℕ} → rest ≡ length (between filled d.read f.end)
-      → left ≡ moved_of filled d.read f.end
-      → {unsent : Bool} → unsent ≡ d.sent.failed
-      → Turns s m (take held input) earlier
-      (record {
-        state = d.state;
-        held = rest;
-        sent = d.sent;
-        failed = f.failed;
-        more = (not f.failed && not unsent) && ltb held f.end;
-      })
-      after left
-  turned s m earlier bytes d after given {rest} {left} e moves {unsent} same =
-      let g = rw (ap (λ (n : ℕ). take n filled) (sub-zero f.end)) at given in
-      let over = moved d.read g.1.1.0 in
-      let h = rw parted at g in
-      record {
-        came = came;
-        state = h.0;
-        memory = h.1.0;
-        sent = h.1.1.1;
-        rest = rw (e, moves) (moved_front filled d.read f.end) ∙ over ∙ ap rest_of parted;
-        few = omega (arith, e, ap length over, rest_short all (below-take f.end filled bytes));
-        more = rw (same, same_test held f.end (length came) came_size);
-      }
+  module _ {rest : ℕ} (e : rest ≡ length (between d.input read (f.held + came))) where
+    pub turned_few : rest < 256
+    turned_few = omega (arith, e, ap length moved, drains.short)
+
+    pub turned : {next : Bench} → next.state ≡ d.state → next.memory ≡ d.memory → next.sent ≡ d.sent
+        → next.held ≡ rest → next.input ≡ moved_of d.input read (f.held + came)
+        → {fine : Bool} → fine ≡ is_ok d.sent → Turns b (fine && ltb 0 came) next
+    turned {next} state memory sent held input {fine} ok =
+        let ran : run_on f.state f.memory all ≡ run_on b.state b.memory (held_of b ++ bytes) =
+        λ i. run_on (stays.state i) (stays.memory i) (parted i) in
+        record {
+          came = bytes;
+          state = state ∙ drains.state ∙ ap (λ (r : Ran). r.state) ran;
+          memory = memory ∙ drains.memory ∙ ap (λ (r : Ran). r.memory) ran;
+          sent = rw (← ran, ← stays.sent, sent) drains.sent;
+          rest =
+              (λ i. take (held i) (input i))
+              ∙ ap (λ (n : ℕ). take n (moved_of d.input read (f.held + came))) e
+              ∙ moved_front d.input read (f.held + came)
+              ∙ moved
+              ∙ ap rest_of parted;
+          more = rw (ok, sent, came_size);
+        }

@@ -3,191 +3,125 @@
 
 mod sending;
 
-ghost use Rattle.std.specs.Prelude.{◌≡◌, ◌≤◌, ◌<◌, length, take, replicate};
-ghost use Rattle.records.specs.Record.{joined, records_of};
-ghost use Rattle.records.specs.Line.{put};
-ghost use Rattle.transcript.specs.Taking.{run_on};
-ghost use Rattle.transcript.specs.Last.{closing};
-ghost use Rattle.bench.specs.Sending.{Sends};
-ghost use Rattle.bench.specs.Main.{Turns, Runs};
+ghost use Rattle.std.specs.Prelude.{◌<◌};
 
-use sending::Sent;
+use sending::{Sent, Unsent};
+use std::io;
 use std::io::Read;
 use transcript::State;
 
 // "it keeps message memory of 4,096 zero bytes"
 fn main(rt: HostRuntime) {
-    let mut memory = [0u8; 4096];
-    let mut input = [0u8; 16384];
-    let mut output = [0u8; 16384];
-    run(rt, &mut memory, &mut input, &mut output);
-}
-
-// The state at the end, what was sent, and whether a read failed.
-#[derive(Clone, Copy)]
-struct Ended {
-    state: State,
-    sent: Sent,
-    failed: bool,
-}
-
-// Turn after turn until the input ends or a call fails; then the last line, but not after a read that failed.
-// A proved loop has to end, and nothing says that the input does: it counts down from a number that no run uses up.
-fn run(rt: HostRuntime, memory: &mut [u8], input: &mut [u8], output: &mut [u8]) -> Ended
-    requires memory_value { memory.old ≡ replicate 4096 0 }
-    requires in_bounds { (256 ≤ length input.old) × (86 ≤ length output.old) }
-    ensures { Runs memory.old result memory.new output.new }
-{
-    let mut last = Turned {
+    let mut bench = Bench {
+        rt,
         state: transcript::set_up(),
+        memory: [0; 4096],
+        input: [0; 16384],
         held: 0,
-        sent: sending::nothing(),
-        failed: false,
-        more: true,
+        output: [0; 16384],
+        sent: Ok(Sent::nothing()),
     };
-    let mut turns = u64::MAX;
-    while last.more & (turns > 0) {
-        last = turn(rt, last.state, memory, input, output, last.held, last.sent);
-        turns -= 1;
-    }
-    let state = last.state;
-    let sent = last.sent;
-    if last.failed {
-        return Ended {
-            state: state,
-            sent: sent,
-            failed: true,
-        };
-    }
-    Ended {
-        state: state,
-        sent: finish(rt, state, output, sent),
-        failed: false,
+    if let Err(error) = bench.run() {
+        sending::fail(rt, "bench: standard input", error);
     }
 }
 
-// The state after a turn, how many bytes are held, what was sent, whether the read failed, and whether more is to come.
-#[derive(Clone, Copy)]
-struct Turned {
-    state: State,
-    held: usize,
-    sent: Sent,
-    failed: bool,
-    more: bool,
-}
-
-// One turn: reads, takes the whole records, and moves what is left to the front.
-fn turn(
+// What the program keeps from turn to turn: the receiver and the counts, the message memory, the input with what is
+// held of it at its front, and how much was sent.
+#[derive(Drop)]
+struct Bench {
     rt: HostRuntime,
-    before: State,
-    memory: &mut [u8],
-    input: &mut [u8],
-    output: &mut [u8],
+    state: State,
+    memory: [u8; 4096],
+    input: [u8; 16384],
     held: usize,
-    earlier: Sent,
-) -> Turned
-    requires { (held < 256) × (256 ≤ length input.old) × (86 ≤ length output.old) }
-    ensures { Turns before memory.old (take held input.old) earlier
-        result memory.new input.new }
-{
-    let filled = fill(rt, input, held);
-    let end = filled.end;
-    let failed = filled.failed;
-    let drained = drain(rt, before, memory, &input[0..end], output, earlier);
-    let after = drained.state;
-    let sent = drained.sent;
-    let rest = transcript::to_front(input, drained.read, end);
-    Turned {
-        state: after,
-        held: rest,
-        sent: sent,
-        failed: failed,
-        more: !failed & !sending::failed(sent) & (held < end),
+    output: [u8; 16384],
+    sent: Result<Sent, Unsent>,
+    // less than the longest record
+    ghost few: { held < 256 },
+}
+
+impl Bench {
+    ghost use Rattle.std.specs.Prelude.{◌≡◌, ◌≤◌, ◌+◌, length, take, drop, replicate, Ok, IfOk, OnErr, is_err};
+    ghost use Rattle.transcript.specs.State.{start};
+    ghost use Rattle.bench.specs.Sending.{nothing_sent};
+    ghost use Rattle.bench.specs.Main.{Takes, Drains, Turns, Stays, Finishes, Runs};
+
+    // Turn after turn until the input ends or a call fails; then the last line, but not after a read that failed.
+    // A proved loop has to end, and nothing says that the input does: 2^64 - 1 turns are more than a run uses up.
+    fn run(&mut self) -> io::Result<()>
+        requires memory_value { self.old.memory ≡ replicate 4096 0 }
+        requires fresh { (self.old.state ≡ start) × (self.old.held ≡ 0) × (self.old.sent ≡ Ok nothing_sent) }
+        ensures { Runs self.old.memory (is_err result) self.new }
+    {
+        for _ in 0..u64::MAX {
+            if !self.turn()? {
+                break;
+            }
+        }
+        self.finish();
+        Ok(())
     }
-}
 
-// Where the bytes in the buffer end after a read, and whether it failed.
-#[derive(Clone, Copy)]
-struct Filled {
-    end: usize,
-    failed: bool,
-}
+    // One turn: reads, takes the whole records, and moves what is left to the front. Whether more is to come.
+    fn turn(&mut self) -> io::Result<bool>
+        ensures taken { IfOk result (λ more. Turns self.old more self.new) }
+        ensures failed { OnErr result (Stays self.old self.new) }
+    {
+        let came = self.fill()?;
+        let end = self.held + came;
+        let read = self.drain(end);
+        self.held = transcript::to_front(&mut self.input, read, end);
+        Ok(self.sent.is_ok() & (0 < came))
+    }
 
-// Reads once behind the bytes held. A read that fails is told on standard error.
-fn fill(rt: HostRuntime, input: &mut [u8], held: usize) -> Filled
-    requires { held ≤ length input.old }
-    ensures kept { take held input.new ≡ take held input.old }
-    ensures behind { held ≤ result.end }
-    ensures within { result.end ≤ length input.new }
-{
-    let free = &mut input[held..];
-    match rt.stdin().read(free) {
-        Ok(count) => Filled {
-            end: held + count,
-            failed: false,
-        },
-        Err(e) => {
-            sending::fail(rt, "bench: standard input", e);
-            Filled {
-                end: held,
-                failed: true,
+    // Reads once behind the bytes held: how many came.
+    fn fill(&mut self) -> io::Result<usize>
+        ensures stays { Stays self.old self.new }
+        ensures within { IfOk result (λ came. self.new.held + came ≤ length self.new.input) }
+    {
+        self.rt.stdin().read(&mut self.input[self.held..])
+    }
+
+    // Takes chunk after chunk of the input up to `end`, until no whole record is left: how many bytes were taken.
+    fn drain(&mut self, end: usize) -> usize
+        requires { end ≤ length self.old.input }
+        ensures { Drains self.old (take end self.old.input) result self.new }
+    {
+        let mut read = 0;
+        loop {
+            let more = self.chunk(read, end);
+            read += more;
+            if more == 0 {
+                return read;
             }
         }
     }
-}
 
-// The state after some bytes, how many of them were taken, and what was sent.
-#[derive(Clone, Copy)]
-struct Drained {
-    state: State,
-    read: usize,
-    sent: Sent,
-}
-
-// Takes chunk after chunk and sends its lines, until no whole record is left. Behind a write that failed nothing is
-// sent, and the records are taken all the same.
-fn drain(
-    rt: HostRuntime,
-    before: State,
-    memory: &mut [u8],
-    bytes: &[u8],
-    output: &mut [u8],
-    earlier: Sent,
-) -> Drained
-    requires { 86 ≤ length output.old }
-    ensures state { result.state ≡ (run_on before memory.old bytes.now).state }
-    ensures memory { memory.new ≡ (run_on before memory.old bytes.now).memory }
-    ensures read { result.read ≡ length (joined (records_of bytes.now)) }
-    ensures sent { Sends earlier (length (run_on before memory.old bytes.now).text)
-        result.sent }
-{
-    let mut state = before;
-    let mut sent = earlier;
-    let mut read = 0;
-    loop {
-        let taken = transcript::chunk(state, memory, &bytes[read..], output);
-        let more = taken.read;
-        let end = taken.written;
-        state = taken.state;
-        sent = sending::send(rt, sent, &output[0..end]);
-        read += more;
-        if more == 0 {
-            break;
-        }
+    // Takes a chunk of the input from `from` up to `end` and sends its lines: how many bytes it took. Behind a write that
+    // failed nothing is sent, and the records are taken all the same.
+    fn chunk(&mut self, from: usize, end: usize) -> usize
+        requires { (from ≤ end) × (end ≤ length self.old.input) }
+        ensures { Takes self.old (drop from (take end self.old.input)) result self.new }
+    {
+        let bytes = &self.input[..end];
+        let taken = transcript::chunk(
+            self.state,
+            &mut self.memory,
+            &bytes[from..],
+            &mut self.output,
+        );
+        let written = taken.written;
+        self.state = taken.state;
+        self.sent = sending::send(self.rt, self.sent, &self.output[..written]);
+        taken.read
     }
-    Drained {
-        state: state,
-        read: read,
-        sent: sent,
-    }
-}
 
-// Sends the last line.
-fn finish(rt: HostRuntime, state: State, output: &mut [u8], earlier: Sent) -> Sent
-    requires { 86 ≤ length output.old }
-    ensures output { output.new ≡ put output.old 0 (closing state) }
-    ensures sent { Sends earlier (length (closing state)) result }
-{
-    let end = transcript::last_line(state, output);
-    sending::send(rt, earlier, &output[0..end])
+    // Sends the last line.
+    fn finish(&mut self)
+        ensures { Finishes self.old self.new }
+    {
+        let end = transcript::last_line(self.state, &mut self.output);
+        self.sent = sending::send(self.rt, self.sent, &self.output[..end]);
+    }
 }

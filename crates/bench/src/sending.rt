@@ -1,64 +1,43 @@
-// Standard output, and how much was handed to it. Only this file can make a `Sent`: no write is made up or left out.
-ghost use Rattle.std.specs.Prelude.{◌≡◌, ◌+◌, length};
-ghost use Rattle.bench.specs.Sending.{capped, nothing_sent, Sends};
+// Standard output, and how much was handed to it. Only this file can make a `Sent` or an `Unsent`: no write is made up
+// or left out.
+ghost use Rattle.std.specs.Prelude.{◌≡◌, length};
+ghost use Rattle.bench.specs.Sending.{nothing_sent, Sends};
 
 use std::io;
 use std::io::Write;
 
-// How many bytes were handed over, and whether a write failed.
+// How many bytes were handed over.
 #[derive(Clone, Copy)]
 pub struct Sent {
     bytes: u64,
-    failed: bool,
 }
 
-pub fn nothing() -> Sent
-    ensures { result ≡ nothing_sent }
-{
-    Sent {
-        bytes: 0,
-        failed: false,
+// A write failed, and was told on standard error.
+#[derive(Clone, Copy)]
+pub struct Unsent(());
+
+impl Sent {
+    pub fn nothing() -> Sent
+        ensures { result ≡ nothing_sent }
+    {
+        Sent { bytes: 0 }
     }
 }
 
-pub fn failed(sent: Sent) -> bool
-    ensures { result ≡ sent.failed }
-{
-    sent.failed
-}
-
-// The text written whole, or the error told on standard error. Behind a write that failed nothing is written.
-pub fn send(rt: HostRuntime, before: Sent, text: &[u8]) -> Sent
+// The text written whole, or the error told on standard error. Behind a write that failed nothing is written. The count
+// stops at 2^64 - 1.
+pub fn send(rt: HostRuntime, before: Result<Sent, Unsent>, text: &[u8]) -> Result<Sent, Unsent>
     ensures { Sends before (length text.now) result }
 {
-    if before.failed {
-        return before;
-    }
+    let sent = before?;
     match rt.stdout().write_all(text) {
-        Ok(()) => Sent {
-            bytes: more(before.bytes, text.len()),
-            failed: false,
-        },
-        Err(e) => {
-            fail(rt, "bench: standard output", e);
-            Sent {
-                bytes: before.bytes,
-                failed: true,
-            }
+        Ok(()) => Ok(Sent {
+            bytes: sent.bytes.saturating_add(text.len() as u64),
+        }),
+        Err(error) => {
+            fail(rt, "bench: standard output", error);
+            Err(Unsent(()))
         }
-    }
-}
-
-// A count of 64 bits, which stops at 2^64 - 1.
-fn more(count: u64, bytes: usize) -> u64
-    ensures { result ≡ capped (count + bytes) }
-{
-    let room = u64::MAX - count;
-    let grown = bytes as u64;
-    if room < grown {
-        u64::MAX
-    } else {
-        count + grown
     }
 }
 

@@ -37,7 +37,7 @@ chunk_determined κs a r q e f p o =
     let written = determined p.1.1.1.0 o.1.1.1.0 in (
       λ i. record { state = state i; read = read i; written = written i },
       determined p.1.0 o.1.0,
-      determined p.1.1.1.1 o.1.1.1.1,
+      determined p.1.1.1.1.0 o.1.1.1.1.0,
     )
 
 pub to_front_determined : (κs : Lfts 1) (a : _) (r q : ℕ) (e f : _) → to_front.Post κs a r e → to_front.Post κs a q f

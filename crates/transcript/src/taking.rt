@@ -1,7 +1,7 @@
 // A chunk of the input: its whole records, as long as the output has room for a line.
-ghost use Rattle.std.specs.Prelude.{◌≡◌, length};
+ghost use Rattle.std.specs.Prelude.{◌≡◌, ◌<◌, length};
 ghost use Rattle.octets.specs.Bytes.{laid};
-ghost use Rattle.records.specs.Record.{joined, records_of};
+ghost use Rattle.records.specs.Record.{joined, records_of, rest_of};
 ghost use Rattle.transcript.specs.Taking.{chunk_frames, chunk_run};
 
 use crate::frame;
@@ -15,6 +15,7 @@ pub struct Taken {
     pub written: usize,
 }
 
+// Behind the input's whole records stand fewer bytes than the longest record has.
 pub fn chunk(before: State, memory: &mut [u8], input: &[u8], output: &mut [u8]) -> Taken
     ensures state { result.state
         ≡ (chunk_run (length output.old) before memory.old input.now).state }
@@ -26,6 +27,7 @@ pub fn chunk(before: State, memory: &mut [u8], input: &[u8], output: &mut [u8]) 
         (chunk_run (length output.old) before memory.old input.now).text }
     ensures output { output.new ≡ laid output.old 0
         (chunk_run (length output.old) before memory.old input.now).text }
+    ensures short { length (rest_of input.now) < 256 }
 {
     let mut state = before;
     let mut read = 0;

@@ -7,6 +7,7 @@ use lib.ListN.{length}
 use Rattle.records.specs.declared.record.Record.TheVariants.{Whole}
 use Rattle.records.specs.Record.{record_at}
 use Rattle.records.proofs.Records.{Stands}
+use Rattle.records.proofs.Walks.{rest_short}
 use Rattle.transcript.proofs.Places.{no_whole}
 use Rattle.transcript.proofs.Frames.{frames_none, frames_full}
 use Rattle.transcript.proofs.Along.{along_start, along_done, stands, along_more}
@@ -74,6 +75,7 @@ returns-after-loop-output c =
       read = the_parts.1.1.0;
       written = the_parts.1.1.1.0;
       output = the_parts.1.1.1.1;
+      short = rest_short c.args.input.now (λ i. (c.shared_slice_known-1.given i).fits);
     }
 
 pub returns-in_default : goal.returns-in_default
@@ -88,6 +90,7 @@ returns-in_default c =
       read = the_parts.1.1.0;
       written = the_parts.1.1.1.0;
       output = the_parts.1.1.1.1;
+      short = rest_short c.args.input.now (λ i. (c.shared_slice_known-1.given i).fits);
     }
 
 pub loop-output-init : goal.loop-output-init
