@@ -1,25 +1,81 @@
 // How long a slot waits: limits at set-up, and a start with one packet more.
-use crate::answers::{tell_answer, tell_outcome};
-use crate::packets::{fresh, give};
+use crate::answers::{Kept, answered, changed};
+use crate::packets::{MEMORY, fresh, give};
 use mctp::Eid;
+use told::{Answer, Page};
 
 // A start of one byte, and the packet that comes next.
-pub const START: u8 = 0x88;
+const START: u8 = 0x88;
 
-pub const NEXT: u8 = 0x18;
+const NEXT: u8 = 0x18;
 
-pub fn tell_limit(rt: HostRuntime, limit: u32) {
-    let changed = slots::set_up(Eid(9), limit);
-    let outcome = changed.outcome;
-    tell_outcome(rt, outcome);
+pub fn tell(page: &mut Page) {
+    page.section("Old half-messages at EID 9, by a count of milliseconds");
+    for (words, limit) in [
+        ("limit 0: ", 0),
+        ("limit 1: ", 1),
+        ("limit 60000: ", 60000),
+        ("limit 60001: ", 60001),
+    ] {
+        page.line(words, changed(slots::set_up(Eid(9), limit)));
+    }
+    for (words, start, byte, time) in [
+        (
+            "limit 1000, start at 0, next packet at 1000: ",
+            0,
+            NEXT,
+            1000,
+        ),
+        (
+            "limit 1000, start at 0, next packet at 1001: ",
+            0,
+            NEXT,
+            1001,
+        ),
+        (
+            "limit 1000, start at 0, the same start at 1000: ",
+            0,
+            START,
+            1000,
+        ),
+        (
+            "limit 1000, start at 0, the same start at 1001: ",
+            0,
+            START,
+            1001,
+        ),
+        (
+            "limit 1000, start at 4294967290, next packet at 994: ",
+            4294967290,
+            NEXT,
+            994,
+        ),
+        (
+            "limit 1000, start at 4294967290, next packet at 995: ",
+            4294967290,
+            NEXT,
+            995,
+        ),
+        (
+            "limit 1000, start at 1000, clock stepped back, next packet at 999: ",
+            1000,
+            NEXT,
+            999,
+        ),
+        (
+            "limit 1000, start at 5, a whole turn idle, next packet at 5: ",
+            5,
+            NEXT,
+            5,
+        ),
+    ] {
+        page.line(words, behind(start, byte, time));
+    }
 }
 
 // The answer to the second packet.
-pub fn tell_behind(rt: HostRuntime, start: u32, byte: u8, time: u32) {
-    let mut memory = [0u8; 4096];
-    let begun = give(fresh(), &mut memory, 5, START, start);
-    let waiting = begun.receiver;
-    let given = give(waiting, &mut memory, 5, byte, time);
-    let answer = given.answer;
-    tell_answer(rt, answer);
+fn behind(start: u32, byte: u8, time: u32) -> Answer<Kept> {
+    let mut memory = MEMORY;
+    let begun = give::<5>(fresh(), &mut memory, START, start);
+    answered(give::<5>(begun.receiver, &mut memory, byte, time).answer)
 }

@@ -1,48 +1,78 @@
-// What a packet is answered.
-use crate::packets::{after, give};
-use crate::text::{refused, say, tell};
-use mctp::Outcome;
-use receiver::Answer;
+// What the receiver answers, in words.
+ghost use Rattle.std.specs.Prelude.{◌≤◌, ◌<◌, ◌^◌};
 
-// The answer to a packet after a script.
-pub fn tell_after(rt: HostRuntime, size: usize, script: &[u8], last: usize, byte: u8) {
-    let mut memory = [0u8; 4096];
-    let before = after(size, script, &mut memory);
-    let given = give(before, &mut memory, last, byte, 0);
-    let answer = given.answer;
-    tell_answer(rt, answer);
+use crate::packets::{Call, MEMORY, after, give};
+use mctp::Outcome;
+use slots::Changed;
+use std::fmt;
+use told::{Answer, Good};
+
+// What became of a packet's message.
+#[derive(Drop)]
+pub enum Kept {
+    Held {
+        slot: u8,
+        bytes: usize,
+        again: bool,
+    },
+    Done {
+        slot: u8,
+        length: usize,
+        again: bool,
+    },
 }
 
-pub fn tell_answer(rt: HostRuntime, answer: Answer) {
-    match answer {
-        Answer::Refused { refusal } => refused(rt, refusal),
-        Answer::Held { slot, bytes, again } => {
-            tell(rt, b"held slot ", slot as usize);
-            tell(rt, b" bytes ", bytes);
-            tell_again(rt, again);
-        }
-        Answer::Done {
+impl fmt::Display for Kept {
+    fn fmt<W: fmt::Write>(&self, f: &mut fmt::Formatter<W>) -> fmt::Result {
+        let again = match *self {
+            Kept::Held { slot, bytes, again } => {
+                write!(f, "held slot {slot} bytes {bytes}")?;
+                again
+            }
+            Kept::Done {
+                slot,
+                length,
+                again,
+            } => {
+                write!(f, "done slot {slot} length {length}")?;
+                again
+            }
+        };
+        if again { write!(f, " again") } else { Ok(()) }
+    }
+}
+
+// The answer to a packet.
+pub fn answered(answer: receiver::Answer) -> Answer<Kept> {
+    Answer(match answer {
+        receiver::Answer::Refused { refusal } => Err(refusal),
+        receiver::Answer::Held { slot, bytes, again } => Ok(Kept::Held { slot, bytes, again }),
+        receiver::Answer::Done {
             slot,
             length,
             again,
-        } => {
-            tell(rt, b"done slot ", slot as usize);
-            tell(rt, b" length ", length);
-            tell_again(rt, again);
-        }
-    }
+        } => Ok(Kept::Done {
+            slot,
+            length,
+            again,
+        }),
+    })
+}
+
+// The answer to a packet of N bytes after calls with packets of M.
+pub fn answered_after<const M: usize, const N: usize>(calls: &[Call], byte: u8) -> Answer<Kept>
+    requires before { (4 ≤ M) × (M < 2 ^ 63) }
+    requires last { (4 ≤ N) × (N < 2 ^ 63) }
+{
+    let mut memory = MEMORY;
+    let before = after::<M>(calls, &mut memory);
+    answered(give::<N>(before, &mut memory, byte, 0).answer)
 }
 
 // What a call that changes the receiver came to.
-pub fn tell_outcome(rt: HostRuntime, outcome: Outcome) {
-    match outcome {
-        Outcome::Good => say(rt, b"good"),
-        Outcome::Refused(why) => refused(rt, why),
-    }
-}
-
-fn tell_again(rt: HostRuntime, again: bool) {
-    if again {
-        say(rt, b" again");
-    }
+pub fn changed(changed: Changed) -> Answer<Good> {
+    Answer(match changed.outcome {
+        Outcome::Good => Ok(Good),
+        Outcome::Refused(why) => Err(why),
+    })
 }

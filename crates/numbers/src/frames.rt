@@ -1,38 +1,52 @@
 // The sizes of SMBus frames and packets.
-use crate::text::{refused, say, tell};
+ghost use Rattle.std.specs.Prelude.{◌≤◌, ◌<◌, ◌^◌};
+
 use smbus::{Carried, Written};
+use std::fmt;
+use told::{Answer, Page, SmbusPacket};
 
-// A frame with this count, four bytes longer than it counts, and right in all but, perhaps, its size.
-pub fn read(rt: HostRuntime, count: u8) {
-    let size = count as usize + 4;
-    let mut space = [0u8; 74];
-    octets::lay(&mut space, 0, b"\x40\x0F\x00\x23\x01\x09\x0A\xC8");
-    octets::lay_byte(&mut space, 2, count);
-    let check = pec::pec(octets::part(&space, 0, size - 1));
-    octets::lay_byte(&mut space, size - 1, check);
-    tell_read(rt, octets::part(&space, 0, size));
+pub fn tell(page: &mut Page) {
+    page.section("SMBus");
+    page.line("smbus frame of 9 bytes: ", read::<9>());
+    page.line("smbus frame of 10 bytes: ", read::<10>());
+    page.line("smbus frame of 73 bytes: ", read::<73>());
+    page.line("smbus frame of 74 bytes: ", read::<74>());
+    page.line("smbus packet of 4 bytes written: ", write::<4>());
+    page.line("smbus packet of 5 bytes written: ", write::<5>());
+    page.line("smbus packet of 68 bytes written: ", write::<68>());
+    page.line("smbus packet of 69 bytes written: ", write::<69>());
 }
 
-fn tell_read(rt: HostRuntime, frame: &[u8]) {
-    let carried = smbus::read(frame, 32);
-    match carried {
-        Carried::Refused(why) => refused(rt, why),
-        Carried::Packet { source } => {
-            tell(rt, b"good, packet of ", smbus::part(frame).len());
-            tell(rt, b" bytes from address ", source as usize);
-        }
+// A frame of N bytes that is right in all but, perhaps, its size: its count counts all but four.
+fn read<const N: usize>() -> Answer<SmbusPacket>
+    requires { (9 ≤ N) × (N ≤ 259) }
+{
+    let mut frame = [0u8; N];
+    frame[..8].copy_from_slice(b"\x40\x0F\x00\x23\x01\x09\x0A\xC8");
+    frame[2] = (N - 4) as u8;
+    frame[N - 1] = pec::pec(&frame[..N - 1]);
+    let size = smbus::part(&frame).len();
+    Answer(match smbus::read(&frame, 32) {
+        Carried::Packet { source } => Ok(SmbusPacket { size, source }),
+        Carried::Refused(why) => Err(why),
+    })
+}
+
+// The size of the frame that a packet was written as.
+#[derive(Drop)]
+struct Frame(usize);
+
+impl fmt::Display for Frame {
+    fn fmt<W: fmt::Write>(&self, f: &mut fmt::Formatter<W>) -> fmt::Result {
+        write!(f, "good, frame of {} bytes", self.0)
     }
 }
 
-pub fn write(rt: HostRuntime, size: usize) {
-    let packet = [0u8; 69];
-    let mut frame = [0u8; 74];
-    let written = smbus::write(&mut frame, octets::part(&packet, 0, size), 32, 17);
-    match written {
-        Written::Refused(why) => refused(rt, why),
-        Written::Frame(whole) => {
-            tell(rt, b"good, frame of ", whole);
-            say(rt, b" bytes");
-        }
-    }
+fn write<const N: usize>() -> Answer<Frame>
+    requires { N < 2 ^ 63 }
+{
+    Answer(match smbus::write(&mut [0; 74], &[0; N], 32, 17) {
+        Written::Frame(size) => Ok(Frame(size)),
+        Written::Refused(why) => Err(why),
+    })
 }

@@ -1,42 +1,74 @@
 // The fields of a packet's header, and the EIDs that an endpoint can have.
-use crate::answers::{tell_answer, tell_outcome};
-use crate::packets::{ORDER, fresh};
-use crate::text::{say, tell};
-use mctp::Eid;
+use crate::answers::{Kept, answered, changed};
+use crate::packets::{MEMORY, ORDER, fresh};
+use mctp::{Eid, Header};
+use std::fmt;
+use told::{Answer, Good, Page};
 
-// A packet's header, field by field. In F1 09 0A BD the first four bits are reserved, and BD is 1011 1101.
-pub fn tell_fields(rt: HostRuntime, packet: &[u8]) {
-    let header = mctp::header_of(packet);
-    let key = header.key;
-    tell(rt, b"version ", header.version as usize);
-    tell_if(rt, header.start, b", start");
-    tell_if(rt, header.end, b", end");
-    tell(rt, b", sequence ", header.sequence as usize);
-    tell(rt, b", to ", key.destination.0 as usize);
-    tell(rt, b", from ", key.source.0 as usize);
-    tell_if(rt, key.owner, b", tag owner");
-    tell(rt, b", tag ", key.tag as usize);
+pub fn tell(page: &mut Page) {
+    page.section("Headers and EIDs");
+    page.line(
+        "header F1 09 0A BD: ",
+        Fields(mctp::header_of(b"\xF1\x09\x0A\xBD")),
+    );
+    for (words, eid) in [
+        ("own EID 0: ", 0),
+        ("own EID 1: ", 1),
+        ("own EID 7: ", 7),
+        ("own EID 8: ", 8),
+        ("own EID 254: ", 254),
+        ("own EID 255: ", 255),
+    ] {
+        page.line(words, own(eid));
+    }
+    for (words, eid) in [
+        ("packet from EID 0: ", 0),
+        ("packet from EID 1: ", 1),
+        ("packet from EID 7: ", 7),
+        ("packet from EID 8: ", 8),
+        ("packet from EID 254: ", 254),
+        ("packet from EID 255: ", 255),
+    ] {
+        page.line(words, from(eid));
+    }
 }
 
-fn tell_if(rt: HostRuntime, flag: bool, words: &[u8]) {
-    if flag {
-        say(rt, words);
+// A packet's header, field by field. In F1 09 0A BD the first four bits are reserved, and BD is 1011 1101.
+#[derive(Drop)]
+pub struct Fields(pub Header);
+
+impl fmt::Display for Fields {
+    fn fmt<W: fmt::Write>(&self, f: &mut fmt::Formatter<W>) -> fmt::Result {
+        let header = self.0;
+        let key = header.key;
+        write!(f, "version {}", header.version)?;
+        if header.start {
+            write!(f, ", start")?;
+        }
+        if header.end {
+            write!(f, ", end")?;
+        }
+        write!(
+            f,
+            ", sequence {}, to {}",
+            header.sequence, key.destination.0
+        )?;
+        write!(f, ", from {}", key.source.0)?;
+        if key.owner {
+            write!(f, ", tag owner")?;
+        }
+        write!(f, ", tag {}", key.tag)
     }
 }
 
 // A receiver set up with this EID of its own.
-pub fn tell_own(rt: HostRuntime, eid: u8) {
-    let changed = slots::set_up(Eid(eid), 1000);
-    let outcome = changed.outcome;
-    tell_outcome(rt, outcome);
+fn own(eid: u8) -> Answer<Good> {
+    changed(slots::set_up(Eid(eid), 1000))
 }
 
 // A packet from this EID.
-pub fn tell_from(rt: HostRuntime, eid: u8) {
+fn from(eid: u8) -> Answer<Kept> {
     let mut packet = ORDER;
     packet[2] = eid;
-    let mut memory = [0u8; 4096];
-    let given = receiver::give(fresh(), &mut memory, &packet, 0);
-    let answer = given.answer;
-    tell_answer(rt, answer);
+    answered(receiver::give(fresh(), &mut MEMORY, &packet, 0).answer)
 }

@@ -1,24 +1,57 @@
 // A message of one packet, and one that fills its slot to the last byte.
-use crate::answers::{tell_after, tell_answer};
-use crate::packets::{after, give};
+use crate::answers::{Kept, answered, answered_after};
+use crate::packets::Call::Packet;
+use crate::packets::{Call, MEMORY, after, give};
+use told::{Answer, Page};
 
 // 16 packets that go on from one another, the first with start.
-const BODIES: [u8; 16] = *b"\x88\x18\x28\x38\x08\x18\x28\x38\x08\x18\x28\x38\x08\x18\x28\x38";
+const BODIES: [Call; 16] = [
+    Packet(0x88),
+    Packet(0x18),
+    Packet(0x28),
+    Packet(0x38),
+    Packet(0x08),
+    Packet(0x18),
+    Packet(0x28),
+    Packet(0x38),
+    Packet(0x08),
+    Packet(0x18),
+    Packet(0x28),
+    Packet(0x38),
+    Packet(0x08),
+    Packet(0x18),
+    Packet(0x28),
+    Packet(0x38),
+];
 
-// A packet after so many bodies of 64 bytes.
-pub fn tell(rt: HostRuntime, held: usize, size: usize, byte: u8) {
-    let bodies = BODIES;
-    tell_after(rt, 68, octets::part(&bodies, 0, held), size, byte);
+pub fn tell(page: &mut Page) {
+    page.section("Messages at EID 9");
+    page.line(
+        "message of one packet 01 09 0A C8 00: ",
+        answered_after::<68, 5>(&[], 0xC8),
+    );
+    page.line(
+        "message of 16 bodies of 64, the last not yet the end: ",
+        answered_after::<68, 68>(&BODIES[..15], 0x38),
+    );
+    page.line(
+        "message of 1024 held and one byte more: ",
+        answered_after::<68, 5>(&BODIES, 0x48),
+    );
+    page.line(
+        "message slot after that, asked by one more packet: ",
+        dropped(),
+    );
+    page.line(
+        "message of 16 bodies of 64, the last the end: ",
+        answered_after::<68, 68>(&BODIES[..15], 0x78),
+    );
 }
 
 // A packet after 16 bodies and the byte that was too many.
-pub fn tell_dropped(rt: HostRuntime) {
-    let bodies = BODIES;
-    let mut memory = [0u8; 4096];
-    let full = after(68, &bodies, &mut memory);
-    let over = give(full, &mut memory, 5, 0x48, 0);
-    let left = over.receiver;
-    let given = give(left, &mut memory, 5, 0x58, 0);
-    let answer = given.answer;
-    tell_answer(rt, answer);
+fn dropped() -> Answer<Kept> {
+    let mut memory = MEMORY;
+    let full = after::<68>(&BODIES, &mut memory);
+    let over = give::<5>(full, &mut memory, 0x48, 0);
+    answered(give::<5>(over.receiver, &mut memory, 0x58, 0).answer)
 }

@@ -1,19 +1,58 @@
 // What the front panel shows, call by call: packets with bodies of 64 bytes, and a slot freed.
-use crate::packets::after;
-use crate::text::tell;
+use crate::packets::Call::{Free, Packet};
+use crate::packets::{Call, MEMORY, after};
+use slots::Tallies;
+use std::fmt;
+use told::Page;
 
-// A start, the same start again, a start of another key, a middle of the first, a packet without a start, one of the
-// second out of sequence, slot 0 freed, and a message of one packet.
-const CALLS: [u8; 8] = [0x88, 0x88, 0x89, 0x18, 0x0A, 0x29, 0, 0xCB];
+const CALLS: [Call; 8] = [
+    Packet(0x88),
+    Packet(0x88),
+    Packet(0x89),
+    Packet(0x18),
+    Packet(0x0A),
+    Packet(0x29),
+    Free(0),
+    Packet(0xCB),
+];
 
-// The four tallies after so many of these calls.
-pub fn tell_after(rt: HostRuntime, count: usize) {
-    let calls = CALLS;
-    let mut memory = [0u8; 4096];
-    let receiver = after(68, octets::part(&calls, 0, count), &mut memory);
-    let tallies = slots::tallies_of(receiver);
-    tell(rt, b"gathering ", tallies.gathering as usize);
-    tell(rt, b", bytes held ", tallies.held as usize);
-    tell(rt, b", packets offered ", tallies.offered as usize);
-    tell(rt, b", messages done ", tallies.done as usize);
+pub fn tell(page: &mut Page) {
+    page.section("The front panel at EID 9, with bodies of 64 bytes");
+    for (words, calls) in [
+        ("panel at set-up: ", &CALLS[..0]),
+        ("panel after a start: ", &CALLS[..1]),
+        ("panel after the same start again: ", &CALLS[..2]),
+        ("panel after a start of another key: ", &CALLS[..3]),
+        ("panel after a middle of the first: ", &CALLS[..4]),
+        ("panel after a packet without a start: ", &CALLS[..5]),
+        (
+            "panel after one of the second out of sequence: ",
+            &CALLS[..6],
+        ),
+        ("panel after slot 0 is freed: ", &CALLS[..7]),
+        ("panel after a message of one packet: ", &CALLS[..8]),
+    ] {
+        let receiver = after::<68>(calls, &mut MEMORY);
+        page.line(words, Panel(slots::tallies_of(receiver)));
+    }
+}
+
+// The four tallies.
+#[derive(Drop)]
+struct Panel(Tallies);
+
+impl fmt::Display for Panel {
+    fn fmt<W: fmt::Write>(&self, f: &mut fmt::Formatter<W>) -> fmt::Result {
+        let tallies = self.0;
+        write!(
+            f,
+            "gathering {}, bytes held {}",
+            tallies.gathering, tallies.held
+        )?;
+        write!(
+            f,
+            ", packets offered {}, messages done {}",
+            tallies.offered, tallies.done
+        )
+    }
 }

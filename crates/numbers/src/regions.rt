@@ -1,28 +1,27 @@
 // The length word of a PCC region.
 use crate::packets::ORDER;
-use crate::text::{refused, say, tell};
-use octets::LowFirst;
 use pcc::Carried;
+use told::{Answer, Page, PccPacket};
 
-// A region that is right in all but, perhaps, its length word.
-pub fn read(rt: HostRuntime, length: u32) {
-    let packet = ORDER;
-    let mut region = [0u8; 84];
-    pcc::write(&mut region, 3, false, &packet);
-    octets::lay_word::<LowFirst>(&mut region, 8, length);
-    tell_carried(rt, pcc::read(&region, 3));
+pub fn tell(page: &mut Page) {
+    page.section("PCC");
+    for (words, length) in [
+        ("pcc length 8: ", 8),
+        ("pcc length 9: ", 9),
+        ("pcc length 72: ", 72),
+        ("pcc length 73: ", 73),
+    ] {
+        page.line(words, read(length));
+    }
 }
 
-fn tell_carried(rt: HostRuntime, carried: Carried) {
-    match carried {
-        Carried::Refused(why) => refused(rt, why),
-        Carried::Packet { size, notify } => {
-            tell(rt, b"good, packet of ", size);
-            if notify {
-                say(rt, b" bytes, notify set");
-            } else {
-                say(rt, b" bytes, notify clear");
-            }
-        }
-    }
+// A region that is right in all but, perhaps, its length word.
+fn read(length: u32) -> Answer<PccPacket> {
+    let mut region = [0; 84];
+    pcc::write(&mut region, 3, false, &ORDER);
+    region[8..12].copy_from_slice(&length.to_le_bytes());
+    Answer(match pcc::read(&region, 3) {
+        Carried::Packet { size, notify } => Ok(PccPacket { size, notify }),
+        Carried::Refused(why) => Err(why),
+    })
 }

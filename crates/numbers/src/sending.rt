@@ -1,22 +1,58 @@
 // Messages cut into packets. One of 130 bytes from EID 10 to EID 9, with tag owner, tag 5 and first sequence 3, has
 // document 01's bodies of 64, 64 and 2 with flags BD, 0D and 5D.
-use crate::headers::tell_fields;
-use crate::packets::{Memory, fresh};
-use crate::paths::tell_arrived;
-use crate::text::{refused, say, tell};
+ghost use Rattle.std.specs.Prelude.{◌<◌, ◌^◌};
+
+use crate::headers::Fields;
+use crate::packets::{MEMORY, Memory, fresh};
+use crate::paths::{Brought, arrived};
 use mctp::{Eid, Key};
 use sender::{Counted, Cut, Heading};
 use slots::Receiver;
 use smbus::Written;
+use std::fmt;
+use told::{Answer, Page};
 
-// The number of packets of a message of this size.
-pub fn tell_count(rt: HostRuntime, size: usize) {
-    let bytes = [0u8; 1025];
-    let counted = sender::count(octets::part(&bytes, 0, size));
-    match counted {
-        Counted::Refused(why) => refused(rt, why),
-        Counted::Packets(n) => tell(rt, b"packets ", n),
+const MESSAGE: [u8; 130] = [0; 130];
+
+pub fn tell(page: &mut Page) {
+    page.section("Messages sent from EID 10 to EID 9, tag owner, tag 5, first sequence 3");
+    page.line("message of 0 bytes: ", count::<0>());
+    page.line("message of 1 byte: ", count::<1>());
+    page.line("message of 64 bytes: ", count::<64>());
+    page.line("message of 65 bytes: ", count::<65>());
+    page.line("message of 1024 bytes: ", count::<1024>());
+    page.line("message of 1025 bytes: ", count::<1025>());
+    page.line("message of 130 bytes: ", count::<130>());
+    page.line("its packet 0: ", cut::<68>(9, 0));
+    page.line("its packet 1: ", cut::<68>(9, 1));
+    page.line("its packet 2: ", cut::<68>(9, 2));
+    page.line("its packet 3: ", cut::<68>(9, 3));
+    page.line("its packet 0 in an output of 67 bytes: ", cut::<67>(9, 0));
+    page.line("its packet 0 to EID 7 instead: ", cut::<68>(7, 0));
+    page.line(
+        "its frames, one by one to a fresh receiver at EID 9: ",
+        sent(),
+    );
+}
+
+// How many packets a message has.
+#[derive(Drop)]
+struct Packets(usize);
+
+impl fmt::Display for Packets {
+    fn fmt<W: fmt::Write>(&self, f: &mut fmt::Formatter<W>) -> fmt::Result {
+        write!(f, "packets {}", self.0)
     }
+}
+
+// The number of packets of a message of N bytes.
+fn count<const N: usize>() -> Answer<Packets>
+    requires { N < 2 ^ 63 }
+{
+    Answer(match sender::count(&[0; N]) {
+        Counted::Packets(packets) => Ok(Packets(packets)),
+        Counted::Refused(why) => Err(why),
+    })
 }
 
 fn heading(destination: u8) -> Heading {
@@ -31,58 +67,72 @@ fn heading(destination: u8) -> Heading {
     }
 }
 
-// Packet k of the 130 bytes, in an output that any packet fits into.
-pub fn tell_packet(rt: HostRuntime, destination: u8, k: usize) {
-    let mut out = [0u8; 68];
-    tell_cut(rt, &mut out, destination, k);
+// A packet of a message: its size, the size of its body, and its header.
+#[derive(Drop)]
+struct Packet {
+    size: usize,
+    body: usize,
+    fields: Fields,
 }
 
-// Packet 0 of them, in an output that is a byte too short.
-pub fn tell_short(rt: HostRuntime) {
-    let mut out = [0u8; 67];
-    tell_cut(rt, &mut out, 9, 0);
-}
-
-fn tell_cut(rt: HostRuntime, out: &mut [u8], destination: u8, k: usize) {
-    let message = [0u8; 130];
-    let cut = sender::to_output(out, &message, heading(destination), k);
-    match cut {
-        Cut::Refused(why) => refused(rt, why),
-        Cut::Packet(size) => {
-            let packet = octets::part(out, 0, size);
-            tell(rt, b"good, ", size);
-            tell(rt, b" bytes, body of ", octets::part(packet, 4, 64).len());
-            say(rt, b", ");
-            tell_fields(rt, packet);
-        }
+impl fmt::Display for Packet {
+    fn fmt<W: fmt::Write>(&self, f: &mut fmt::Formatter<W>) -> fmt::Result {
+        write!(
+            f,
+            "good, {} bytes, body of {}, {}",
+            self.size, self.body, self.fields
+        )
     }
 }
 
+// Packet k of the 130 bytes, in an output of N bytes.
+fn cut<const N: usize>(destination: u8, k: usize) -> Answer<Packet>
+    requires { N < 2 ^ 63 }
+{
+    let mut out = [0; N];
+    Answer(
+        match sender::to_output(&mut out, &MESSAGE, heading(destination), k) {
+            Cut::Packet(size) => {
+                let packet = &out[..size.min(N)];
+                Ok(Packet {
+                    size,
+                    body: packet.iter().skip(4).count().min(64),
+                    fields: Fields(mctp::header_of(packet)),
+                })
+            }
+            Cut::Refused(why) => Err(why),
+        },
+    )
+}
+
 // The frames of packets 0 to 2, given one after another to a fresh receiver.
-pub fn tell_frames(rt: HostRuntime) {
-    let mut memory = [0u8; 4096];
-    let first = send(rt, fresh(), &mut memory, 0);
-    say(rt, b", ");
-    let second = send(rt, first, &mut memory, 1);
-    say(rt, b", ");
-    send(rt, second, &mut memory, 2);
+fn sent() -> Frames {
+    let mut memory = MEMORY;
+    let (first, receiver) = send(fresh(), &mut memory, 0);
+    let (second, receiver) = send(receiver, &mut memory, 1);
+    let (third, _) = send(receiver, &mut memory, 2);
+    Frames([first, second, third])
+}
+
+// What became of the frames, each in turn.
+#[derive(Drop)]
+struct Frames([Answer<Brought>; 3]);
+
+impl fmt::Display for Frames {
+    fn fmt<W: fmt::Write>(&self, f: &mut fmt::Formatter<W>) -> fmt::Result {
+        let [first, second, third] = &self.0;
+        write!(f, "{first}, {second}, {third}")
+    }
 }
 
 // Packet k sent from address 17 to address 32, and received there.
-fn send(rt: HostRuntime, before: Receiver, memory: &mut Memory, k: usize) -> Receiver {
-    let message = [0u8; 130];
-    let mut frame = [0u8; 73];
-    let written = sender::to_smbus(&mut frame, &message, heading(9), k, 32, 17);
-    match written {
-        Written::Refused(why) => {
-            refused(rt, why);
-            before
-        }
+fn send(before: Receiver, memory: &mut Memory, k: usize) -> (Answer<Brought>, Receiver) {
+    let mut frame = [0; 73];
+    match sender::to_smbus(&mut frame, &MESSAGE, heading(9), k, 32, 17) {
         Written::Frame(size) => {
-            let received = rack::from_smbus(octets::part(&frame, 0, size), 32, before, memory, 0);
-            let arrived = received.arrived;
-            tell_arrived(rt, arrived);
-            received.receiver
+            let received = rack::from_smbus(&frame[..size.min(73)], 32, before, memory, 0);
+            (Answer(Ok(arrived(received))), received.receiver)
         }
+        Written::Refused(why) => (Answer(Err(why)), before),
     }
 }

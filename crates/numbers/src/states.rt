@@ -1,28 +1,38 @@
 // The states of the MMBI interface, from its four flags.
-use crate::text::say;
 use mmbi::{Flags, InterfaceState};
+use std::fmt;
+use told::Page;
 
-pub fn flags(b_up: bool, b_rst: bool, h_up: bool, h_rst: bool) -> Flags {
-    Flags {
-        controller_up: b_up,
-        controller_reset: b_rst,
-        host_up: h_up,
-        host_reset: h_rst,
+pub fn tell(page: &mut Page) {
+    page.section("MMBI flags B_UP, B_RST, H_UP, H_RST");
+    for (words, flags) in [
+        ("flags 0000: ", Flags::ALL_CLEAR),
+        ("flags 1000: ", Flags::COMPLETED),
+        ("flags 1010: ", Flags::NORMAL_RUNTIME),
+        ("flags 1011: ", Flags::ASKED_BY_HOST),
+        ("flags 1110: ", Flags::ASKED_BY_CONTROLLER),
+        ("flags 1111: ", Flags::ACKNOWLEDGED),
+    ] {
+        page.line(words, State(mmbi::state(flags)));
     }
 }
 
 // The five states that have a name of their own; the rest are transient.
-pub fn tell(rt: HostRuntime, b_up: bool, b_rst: bool, h_up: bool, h_rst: bool) {
-    let state = mmbi::state(flags(b_up, b_rst, h_up, h_rst));
-    if mmbi::transient(state) {
-        say(rt, b"transient");
-    }
-    match state {
-        InterfaceState::InitializationCompleted => say(rt, b"initialization completed"),
-        InterfaceState::NormalRuntime => say(rt, b"normal runtime"),
-        InterfaceState::ResetRequestByHost => say(rt, b"reset asked by host"),
-        InterfaceState::ResetRequestByController => say(rt, b"reset asked by controller"),
-        InterfaceState::ResetAcked => say(rt, b"reset acknowledged"),
-        _ => {}
+#[derive(Drop)]
+struct State(InterfaceState);
+
+impl fmt::Display for State {
+    fn fmt<W: fmt::Write>(&self, f: &mut fmt::Formatter<W>) -> fmt::Result {
+        if mmbi::transient(self.0) {
+            return f.write_str("transient");
+        }
+        f.write_str(match self.0 {
+            InterfaceState::InitializationCompleted => "initialization completed",
+            InterfaceState::NormalRuntime => "normal runtime",
+            InterfaceState::ResetRequestByHost => "reset asked by host",
+            InterfaceState::ResetRequestByController => "reset asked by controller",
+            InterfaceState::ResetAcked => "reset acknowledged",
+            _ => "",
+        })
     }
 }

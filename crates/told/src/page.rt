@@ -1,0 +1,59 @@
+// A page on standard output, line by line.
+ghost use Rattle.std.specs.Prelude.{◌≡◌, Some, IsNone, true, false};
+ghost use Rattle.told.specs.Page.{is_begun};
+
+use crate::output::Output;
+use std::fmt;
+use std::fmt::Write as _;
+
+// The page between two lines.
+#[derive(Drop)]
+pub struct Page {
+    output: Output,
+    // what ends the line before
+    end: &'static str,
+    // a heading that waits for its first line
+    heading: Option<&'static str>,
+}
+
+impl Page {
+    // An empty page. Standard error hears of standard output by this name.
+    pub fn new(rt: HostRuntime, name: &'static str) -> Page
+        ensures begun { is_begun result.end.now ≡ false }
+        ensures heading { IsNone result.heading }
+    {
+        Page {
+            output: Output { rt, name },
+            end: "",
+            heading: None,
+        }
+    }
+
+    // A heading for the lines that follow, with an empty line before it.
+    pub fn section(&mut self, heading: &'static str)
+        ensures { self.new.heading ≡ Some heading.entry }
+    {
+        self.heading = Some(heading);
+    }
+
+    // A line: in one write the end of the line before, a heading that waits, and the words; then the answer.
+    pub fn line<D: fmt::Display + Drop>(&mut self, words: &str, answer: D)
+        ensures begun { is_begun self.new.end.now ≡ true }
+        ensures heading { IsNone self.new.heading }
+    {
+        let end = self.end;
+        let rt = self.output.rt;
+        let begun = match self.heading.take() {
+            Some(heading) => print!(rt; "{end}{end}{heading}\n{words}"),
+            None => print!(rt; "{end}{words}"),
+        };
+        self.output.note(begun);
+        self.end = "\n";
+        let _ = self.output.write(answer);
+    }
+
+    // Ends the last line.
+    pub fn finish(self) {
+        self.output.note(self.output.rt.print(self.end));
+    }
+}
