@@ -5,7 +5,7 @@ use mathlib.Core.List.{List, [], ◌∷◌, ◌++◌}
 use mathlib.Core.Logic.{by_cases}
 use Prim.Native.Nat.{ℕ, zero, suc, ◌+◌, ◌-◌, ◌*◌, ◌/◌, ◌%◌, ◌^◌, ◌≤◌, ◌<◌}
 use native.Mathlib.Decide.{dec_lt}
-use native.Mathlib.Nat.{div-lt_iff_lt-mul, div-div-eq-div-mul, pow-suc}
+use native.Mathlib.Nat.{div-lt_iff_lt-mul, one-le-pow, pow-suc}
 use native.Mathlib.Omega.{arith}
 use borrow.Author.Tests.{lt-ltb, le-ltb}
 use lib.Dec.{lit<}
@@ -74,16 +74,24 @@ count_one n h = ap length (decimal_one n h)
 pub count_more : (n : ℕ) → n < 10 ^ 20 → 10 ≤ n → length (decimal n) ≡ length (decimal (n / 10)) + 1
 count_more n h m = ap length (decimal_more n h m) ∙ length-append (decimal (n / 10)) ((48 + n % 10) ∷ [])
 
-pub count_four : (n : ℕ) → n < 10 ^ 20 → 10000 ≤ n → length (decimal n) ≡ 4 + length (decimal (n / 10000))
-count_four n h m =
-    let two : n / 10 / 10 ≡ n / 100 = div-div-eq-div-mul n 10 10 in
-    let three : n / 100 / 10 ≡ n / 1000 = div-div-eq-div-mul n 100 10 in
-    let four : n / 1000 / 10 ≡ n / 10000 = div-div-eq-div-mul n 1000 10 in
-    let a = count_more n h (omega arith) in
-    let b = rw two at (count_more (n / 10) (omega arith) (omega arith)) in
-    let c = rw three at (count_more (n / 100) (omega arith) (omega arith)) in
-    let d = rw four at (count_more (n / 1000) (omega arith) (omega arith)) in
-    omega arith
+-- a digit at least
+pub decimal_some : (n : ℕ) → 1 ≤ length (decimal n)
+unfolding decimal digits
+decimal_some n =
+    by_cases (dec_lt n 10)
+    (λ (few : n < 10). omega (arith, count_one n few))
+    (λ (few : n < 10 → ⊥).
+    rw (le-ltb n 10 (omega arith), length-append) (omega arith))
+
+-- one more than the power of ten that the number reaches
+pub count_power : (k n : ℕ) → n < 10 ^ 20 → 10 ^ k ≤ n → n < 10 * 10 ^ k → k + 1 ≡ length (decimal n)
+count_power zero n h low high = sym (count_one n (omega arith))
+count_power (suc k) n h low high =
+    let up : 10 ^ suc k ≡ 10 ^ k * 10 = pow-suc 10 k in
+    let fewer : k + 1 ≡ length (decimal (n / 10)) =
+    count_power k (n / 10) (omega arith) (omega arith) (omega arith) in
+    let many : 1 ≤ 10 ^ k = one-le-pow k 10 (lit< tt) in
+    omega (arith, count_more n h (omega arith))
 
 -- the number that decimal digits make, going on from what those in front of them made
 unfoldable pub made_from : ℕ → List ℕ → ℕ

@@ -1,3 +1,4 @@
 pub mod Record
 pub mod Decimal
 pub mod Line
+pub mod Text

@@ -16,10 +16,10 @@ pub enum Record {
 pub fn record_at(s: &[u8], at: usize) -> Record
     ensures { result ≡ record_at s.now at }
 {
-    if s.len() <= at {
+    let Some(size) = s.get(at) else {
         return Record::End;
-    }
-    let size = octets::byte_at(s, at) as usize;
+    };
+    let size = usize::from(*size);
     let start = at + 1;
     if start + size <= s.len() {
         Record::Whole { start, size }

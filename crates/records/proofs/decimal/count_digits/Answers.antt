@@ -1,21 +1,13 @@
--- `records::decimal::count_digits` meets its contract. The invariant: the digits passed and those of what is left are
--- all.
+-- `records::decimal::count_digits` meets its contract.
 -- Assumes nothing.
+use mathlib.Core.Path.{sym}
 use native.Mathlib.Omega.{arith}
-use Rattle.records.proofs.Decimals.{count_four, decimal_most}
+use Rattle.records.proofs.Decimals.{count_one, count_power}
 use Rattle.records.proofs.decimal.count_digits.Goals as goal
 
-pub loop-rest-init : goal.loop-rest-init
-loop-rest-init c = (omega arith, omega arith)
+pub returns-then-n-eq0-clause-count : goal.returns-then-n-eq0-clause-count
+returns-then-n-eq0-clause-count c = sym (count_one c.args.n (omega arith))
 
-pub overflow_add-count : goal.overflow_add-count
-overflow_add-count c = omega (arith, decimal_most c.args.n)
-
-pub loop-rest-preserved : goal.loop-rest-preserved
-loop-rest-preserved c = (omega (arith, count_four c.loop-rest.rest (omega arith) (omega arith)), omega arith)
-
-pub overflow_add-result : goal.overflow_add-result
-overflow_add-result c = omega (arith, decimal_most c.args.n)
-
-pub returns : goal.returns
-returns c = record { count = omega arith; few = omega (arith, decimal_most c.args.n) }
+pub returns-else-n-eq0-clause-count : goal.returns-else-n-eq0-clause-count
+returns-else-n-eq0-clause-count c =
+    count_power c.ilog10.result c.args.n (omega arith) c.ilog10.ensures.power_le c.ilog10.ensures.next_power_gt
