@@ -52,7 +52,7 @@ fn may_write(most: usize, room: usize, id: u32, size: usize) -> Result<(), Refus
     if !mctp::size_right(most, size) {
         return Err(Refusal::Size);
     }
-    if room < 84 || room < 16 + size {
+    if room < (16 + size).max(84) {
         return Err(Refusal::Room);
     }
     Ok(())
