@@ -9,6 +9,7 @@ use native.Mathlib.Omega.{arith}
 use borrow.Author.Tests.{le-leb, leb-true, eqb-true}
 use lib.Dec.{leb}
 use lib.ListN.{length, get_or}
+use Rattle.std.proofs.lemmas.Bool.{false_from_ne_true}
 use Rattle.octets.specs.Words.{high_first, word_at}
 use Rattle.octets.proofs.Checks.{Hold, FailsAt, answer_at, first_failing_lem, none_failing, all_hold}
 use Rattle.descriptor.specs.declared.configuration.Configuration.{Configuration}
@@ -95,10 +96,6 @@ far_ring s long small signed far =
     rw (
       le-leb 64 (length s) long,
       signed,
-      failed (allowed (length s) (configuration_in s)) (λ (e : _). never_far s small far (allowed_facts _ _ e)),
+      false_from_ne_true (allowed (length s) (configuration_in s)) (λ (e : _). never_far s small far (allowed_facts _ _ e)),
       and-false (version_right s && type_right s),
     )
-  where
-    failed : (t : Bool) → (t ≡ true → ⊥) → t ≡ false
-    failed true n = absurd (n refl)
-    failed false n = refl
