@@ -6,5 +6,5 @@ ghost use Rattle.messages.specs.Run.{message};
 pub fn message(memory: &[u8], slot: u8, length: usize) -> &[u8]
     ensures { result.now ≡ message memory.now slot length }
 {
-    octets::part(memory, 1024 * (slot as usize), length)
+    octets::part(memory, 1024 * usize::from(slot), length)
 }

@@ -3,23 +3,25 @@
 use mathlib.Core.Path.{◌≡◌, ap}
 use contract.Lifetimes.{Lfts}
 use Rattle.octets.proofs.Choice.{determined}
+use Rattle.std.proofs.Common.{Result, Ok, Err}
+use Rattle.mctp.specs.declared.refusal.Refusal.{Refusal}
 use Rattle.mctp.proofs.Refusals.{number_injective}
-use Rattle.receiver.specs.declared.giving.Answer.{Answer}
-use Rattle.receiver.specs.declared.giving.Answer.TheVariants.{Refused, Held, Done}
+use Rattle.receiver.specs.declared.giving.Kept.{Kept}
+use Rattle.receiver.specs.declared.giving.Kept.TheVariants.{Held, Done}
 use Rattle.receiver.specs.Step.{says, Left, left}
 use Rattle.receiver.proofs.giving.give.Reads as give
 
 -- an answer is told by its number and values
-pub says_injective : (a b : Answer) → says a ≡ says b → a ≡ b
-says_injective (Refused r) (Refused s) e = ap Refused (number_injective r s (cc))
-says_injective (Refused r) (Held j b g) e = cc
-says_injective (Refused r) (Done j b g) e = cc
-says_injective (Held i a f) (Refused s) e = cc
-says_injective (Held i a f) (Held j b g) e = cc
-says_injective (Held i a f) (Done j b g) e = cc
-says_injective (Done i a f) (Refused s) e = cc
-says_injective (Done i a f) (Held j b g) e = cc
-says_injective (Done i a f) (Done j b g) e = cc
+pub says_injective : (a b : Result Kept Refusal) → says a ≡ says b → a ≡ b
+says_injective (Err r) (Err s) e = ap Err (number_injective r s (cc))
+says_injective (Err r) (Ok (Held j b g)) e = cc
+says_injective (Err r) (Ok (Done j b g)) e = cc
+says_injective (Ok (Held i a f)) (Err s) e = cc
+says_injective (Ok (Held i a f)) (Ok (Held j b g)) e = cc
+says_injective (Ok (Held i a f)) (Ok (Done j b g)) e = cc
+says_injective (Ok (Done i a f)) (Err s) e = cc
+says_injective (Ok (Done i a f)) (Ok (Held j b g)) e = cc
+says_injective (Ok (Done i a f)) (Ok (Done j b g)) e = cc
 
 -- answer, receiver and memory
 pub give_determined : (κs : Lfts 2) (a r q e f : _) → give.Post κs a r e → give.Post κs a q f

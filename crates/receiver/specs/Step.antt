@@ -1,10 +1,11 @@
 -- A packet given to the message rules: old slots freed, the packet counted, and the decision carried out, with the
 -- answer, the receiver and every byte of the memory.
 -- Assumes nothing.
-use Rattle.std.specs.Prelude.{ℕ, ◌+◌, ◌*◌, Bool, true, List, ltb, length}
+use Rattle.std.specs.Prelude.{ℕ, ◌+◌, ◌*◌, Bool, true, List, ltb, length, Result, Ok, Err}
 use Rattle.octets.specs.Bytes.{laid}
 use Rattle.octets.specs.Choice.{pick}
 use Rattle.mctp.specs.Packet.{body_of}
+use Rattle.mctp.specs.declared.refusal.Refusal.{Refusal}
 use Rattle.mctp.specs.Refusals.{number_of}
 use Rattle.slots.specs.declared.state.Slot.{Slot}
 use Rattle.slots.specs.declared.state.SlotState.{SlotState}
@@ -14,8 +15,8 @@ use Rattle.slots.specs.Slots.{free_slot}
 use Rattle.slots.specs.Changes.{with_slot, with_offered, with_done}
 use Rattle.decision.specs.Rules.{Decision, refuse, release, put}
 use Rattle.decision.specs.Decision.{aged_of, decided}
-use Rattle.receiver.specs.declared.giving.Answer.{Answer}
-use Rattle.receiver.specs.declared.giving.Answer.TheVariants.{Refused, Held, Done}
+use Rattle.receiver.specs.declared.giving.Kept.{Kept}
+use Rattle.receiver.specs.declared.giving.Kept.TheVariants.{Held, Done}
 use Rattle.receiver.specs.declared.giving.Given.{Given}
 
 -- what is answered: a refusal's number; "held, with slot and bytes held"; "done, with slot and length"; the last is
@@ -26,10 +27,10 @@ pub data Said : Type 0 where
   done : ℕ → ℕ → Bool → Said
 
 -- the number and the values of each answer
-abbrev pub says : Answer → Said
-says (Refused refusal) = refused (number_of refusal)
-says (Held slot bytes again) = held slot bytes again
-says (Done slot length again) = done slot length again
+abbrev pub says : Result Kept Refusal → Said
+says (Err refusal) = refused (number_of refusal)
+says (Ok (Held slot bytes again)) = held slot bytes again
+says (Ok (Done slot length again)) = done slot length again
 
 -- all that a call leaves
 pub record Left : Type 0 where

@@ -10,12 +10,9 @@ use decision::Plan;
 use mctp::Refusal;
 use slots::{Receiver, Slot, SlotState};
 
-// What the message rules answer.
+// What the message rules answer where they refuse nothing.
 #[derive(Clone, Copy)]
-pub enum Answer {
-    Refused {
-        refusal: Refusal,
-    },
+pub enum Kept {
     Held {
         slot: u8,
         bytes: usize,
@@ -30,7 +27,7 @@ pub enum Answer {
 
 #[derive(Clone, Copy)]
 pub struct Given {
-    pub answer: Answer,
+    pub answer: Result<Kept, Refusal>,
     pub receiver: Receiver,
 }
 
@@ -53,9 +50,8 @@ fn give_within(
         ≡ step_of most time receiver memory.old packet.now }
 {
     let decided = decision::decide_within(most, receiver, memory.len(), packet, time);
-    let plan = decided.plan;
-    let aged = decided.receiver;
-    carry_out(offered(aged, plan), memory, packet, plan, time)
+    let counted = offered(decided.receiver, decided.plan);
+    carry_out(counted, memory, packet, decided.plan, time)
 }
 
 // The receiver with the packet counted, unless its state or the memory is refused.
@@ -71,22 +67,7 @@ fn offered(receiver: Receiver, plan: Plan) -> Receiver
 fn offers(plan: Plan) -> bool
     ensures { result ≡ offers (planned plan) }
 {
-    match plan {
-        Plan::Refuse(refusal) => {
-            let number = refusal.number();
-            2 < number
-        }
-        Plan::Release {
-            slot: _,
-            refusal: _,
-        } => true,
-        Plan::Put {
-            slot: _,
-            at: _,
-            again: _,
-            then: _,
-        } => true,
-    }
+    !matches!(plan, Plan::Refuse(Refusal::Setup | Refusal::Room))
 }
 
 fn carry_out(receiver: Receiver, memory: &mut [u8], packet: &[u8], plan: Plan, time: u32) -> Given
@@ -95,12 +76,12 @@ fn carry_out(receiver: Receiver, memory: &mut [u8], packet: &[u8], plan: Plan, t
 {
     match plan {
         Plan::Refuse(refusal) => Given {
-            answer: Answer::Refused { refusal: refusal },
-            receiver: receiver,
+            answer: Err(refusal),
+            receiver,
         },
         Plan::Release { slot, refusal } => Given {
-            answer: Answer::Refused { refusal: refusal },
-            receiver: slots::with_slot(receiver, slot as usize, Slot::FREE),
+            answer: Err(refusal),
+            receiver: slots::with_slot(receiver, usize::from(slot), Slot::FREE),
         },
         Plan::Put {
             slot,
@@ -108,12 +89,12 @@ fn carry_out(receiver: Receiver, memory: &mut [u8], packet: &[u8], plan: Plan, t
             again,
             then,
         } => {
-            let place = slot as usize;
-            let before = at as usize;
+            let place = usize::from(slot);
+            let before = usize::from(at);
             let body = octets::part(packet, 4, packet.len());
             octets::lay(memory, 1024 * place + before, body);
             Given {
-                answer: answer_of(then, slot, before + body.len(), again),
+                answer: Ok(answer_of(then, slot, before + body.len(), again)),
                 receiver: finished(with_slot(receiver, slot, slot_in(then, time)), then),
             }
         }
@@ -130,7 +111,7 @@ fn with_slot(receiver: Receiver, slot: u8, new: Slot) -> Receiver
         1 => slots::with_slot(receiver, 1, new),
         2 => slots::with_slot(receiver, 2, new),
         3 => slots::with_slot(receiver, 3, new),
-        _ => slots::with_slot(receiver, slot as usize, new),
+        _ => slots::with_slot(receiver, usize::from(slot), new),
     }
 }
 
@@ -140,15 +121,7 @@ fn slot_in(state: SlotState, time: u32) -> Slot
 {
     match state {
         SlotState::Free => Slot::FREE,
-        SlotState::Gathering {
-            key: _,
-            sequence: _,
-            unit: _,
-            held: _,
-        } => Slot {
-            state: state,
-            since: time,
-        },
+        SlotState::Gathering { .. } => Slot { state, since: time },
     }
 }
 
@@ -158,33 +131,19 @@ fn finished(receiver: Receiver, then: SlotState) -> Receiver
 {
     match then {
         SlotState::Free => slots::with_done(receiver),
-        SlotState::Gathering {
-            key: _,
-            sequence: _,
-            unit: _,
-            held: _,
-        } => receiver,
+        SlotState::Gathering { .. } => receiver,
     }
 }
 
-fn answer_of(then: SlotState, slot: u8, bytes: usize, again: bool) -> Answer
-    ensures { says result ≡ answer_of then slot bytes again }
+fn answer_of(then: SlotState, slot: u8, bytes: usize, again: bool) -> Kept
+    ensures { says (Ok result) ≡ answer_of then slot bytes again }
 {
     match then {
-        SlotState::Free => Answer::Done {
-            slot: slot,
+        SlotState::Free => Kept::Done {
+            slot,
             length: bytes,
-            again: again,
+            again,
         },
-        SlotState::Gathering {
-            key: _,
-            sequence: _,
-            unit: _,
-            held: _,
-        } => Answer::Held {
-            slot: slot,
-            bytes: bytes,
-            again: again,
-        },
+        SlotState::Gathering { .. } => Kept::Held { slot, bytes, again },
     }
 }

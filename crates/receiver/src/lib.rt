@@ -3,4 +3,4 @@
 
 mod giving;
 
-pub use giving::{Answer, Given, give};
+pub use giving::{Given, Kept, give};
