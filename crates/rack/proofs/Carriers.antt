@@ -1,30 +1,28 @@
 -- From each carrier's own answer to what the arrival brings: what the calls of the three paths cite.
 -- Assumes nothing.
-use mathlib.Core.Path.{◌≡◌, refl, ap, sym, ◌∙◌}
-use mathlib.Core.Bool.{Bool}
+use mathlib.Core.Path.{◌≡◌, ap, sym, ◌∙◌}
 use mathlib.Core.List.{List}
 use Prim.Native.Nat.{ℕ, ◌+◌, ◌≤◌, ◌<◌}
 use native.Mathlib.Omega.{arith}
 use lib.ListN.{length, take, drop, length-take, length-drop}
 use lib.Seq.{take_at}
+use Rattle.std.proofs.Common.{Result, Ok, Err}
 use Rattle.octets.specs.Bytes.{fronted}
 use borrow.Author.Tests.{eq-eqb, ne_eqb}
 use Rattle.mctp.specs.declared.refusal.Refusal.{Refusal}
 use Rattle.mctp.specs.Refusals.{number_of}
 use Rattle.mctp.proofs.Refusals.{number_positive}
-use Rattle.smbus.specs.declared.answer.Carried as smbus
-use Rattle.smbus.specs.declared.answer.Carried.TheVariants as smbus-case
+use Rattle.smbus.specs.declared.answer.Packet as smbus
 use Rattle.smbus.specs.Reading as frame
 use Rattle.smbus.proofs.Answers as smbus-says
 use Rattle.smbus.proofs.Answers.{told_good, told_packet, told_source, told_number}
-use Rattle.pcc.specs.declared.answer.Carried as pcc
-use Rattle.pcc.specs.declared.answer.Carried.TheVariants as pcc-case
+use Rattle.pcc.specs.declared.answer.Packet as pcc
 use Rattle.pcc.specs.Reading as region
 use Rattle.pcc.proofs.Answers as pcc-says
 use Rattle.mmbi.specs.declared.interface.Flags.{Flags}
 use Rattle.mmbi.specs.Interface.{state_of, may_read}
-use Rattle.ring.specs.declared.answer.Carried as ring
-use Rattle.ring.specs.declared.answer.Carried.TheVariants as ring-case
+use Rattle.ring.specs.declared.reading.Found as ring
+use Rattle.ring.specs.declared.reading.Found.TheVariants as ring-case
 use Rattle.ring.specs.Round.{round_from}
 use Rattle.ring.specs.Layout as ring_layout
 use Rattle.ring.specs.Reading as ring-says
@@ -32,52 +30,44 @@ use Rattle.ring.specs.Answers.{found_in}
 use Rattle.ring.proofs.Rounds.{round-length}
 use Rattle.ring.proofs.Readings.{Good, good, good_short}
 use Rattle.rack.specs.declared.answer.Beside.TheVariants.{Source, Notify}
-use Rattle.rack.specs.Why.{why_smbus, why_pcc, why_ring}
-use Rattle.rack.specs.Arrivals.{packet, none, without, smbus_brings, pcc_brings, found_brings, ring_brings}
+use Rattle.rack.specs.Arrivals.{packet, none, refused, smbus_brings, pcc_brings, found_brings, ring_brings}
 
 not_zero : (why : Refusal) {n : ℕ} → n ≡ number_of why → n ≡ 0 → ⊥
 not_zero why e z = omega (arith, number_positive why)
 
-module _ (most : ℕ) (f : List ℕ) (own : ℕ) (c : smbus.Carried)
+module _ (most : ℕ) (f : List ℕ) (own : ℕ) (c : Result smbus.Packet Refusal)
     (says : smbus-says.Says most f own c) where
-  pub smbus_none : (why : Refusal) → c ≡ smbus-case.Refused why → smbus_brings most f own ≡ none (without (why_smbus c))
+  pub smbus_none : (why : Refusal) → c ≡ Err why → smbus_brings most f own ≡ none (refused (number_of why))
   unfolding smbus_brings
   smbus_none why is =
       let n : frame.refusal_of most f own ≡ number_of why = told_number most f own c says why is in
-      rw (ne_eqb (frame.refusal_of most f own) 0 (not_zero why n), n, is)
+      rw (ne_eqb (frame.refusal_of most f own) 0 (not_zero why n), n)
 
-  pub smbus_packet : (a : ℕ) → c ≡ smbus-case.Packet a → smbus_brings most f own ≡ packet (frame.part_of f) (Source a)
+  pub smbus_packet : (p : smbus.Packet) → c ≡ Ok p
+      → smbus_brings most f own ≡ packet (frame.part_of f) (Source p.source)
   unfolding smbus_brings
-  smbus_packet a is =
+  smbus_packet p is =
       rw (
-        eq-eqb (frame.refusal_of most f own) 0 (told_good most f own c says a is),
-        told_packet most f own c says a is,
-        told_source most f own c says a is,
+        eq-eqb (frame.refusal_of most f own) 0 (told_good most f own c says p is),
+        told_packet most f own c says p is,
+        told_source most f own c says p is,
       )
 
-module _ (most : ℕ) (r : List ℕ) (id : ℕ) (c : pcc.Carried) (says : pcc-says.Says most r id c) where
-  pub pcc_none : (why : Refusal) → c ≡ pcc-case.Refused why → pcc_brings most r id ≡ none (without (why_pcc c))
+module _ (most : ℕ) (r : List ℕ) (id : ℕ) (c : Result pcc.Packet Refusal) (says : pcc-says.Says most r id c) where
+  pub pcc_none : (why : Refusal) → c ≡ Err why → pcc_brings most r id ≡ none (refused (number_of why))
   unfolding pcc_brings
   pcc_none why is =
       let n : region.refusal_of most r id ≡ number_of why = sym (pcc-says.told_number most r id says is) in
-      rw (ne_eqb (region.refusal_of most r id) 0 (not_zero why n), n, is)
+      rw (ne_eqb (region.refusal_of most r id) 0 (not_zero why n), n)
 
-  pub pcc_packet : (size : ℕ) (notify : Bool) → c ≡ pcc-case.Packet size notify
-      → pcc_brings most r id ≡ packet (region.part_of r size) (Notify notify)
+  pub pcc_packet : (p : pcc.Packet) → c ≡ Ok p
+      → pcc_brings most r id ≡ packet (region.part_of r p.size) (Notify p.notify)
   unfolding pcc_brings
-  pcc_packet size notify is =
+  pcc_packet p is =
       let z : region.refusal_of most r id ≡ 0 = sym (pcc-says.told_number most r id says is) in
-      let p : region.packet_of most r id ≡ region.part_of r size = sym (pcc-says.told_packet most r id says is) in
-      let f : region.notify_of most r id ≡ notify = sym (pcc-says.told_notify most r id says is) in
-      rw (eq-eqb (region.refusal_of most r id) 0 z, p, f)
-
--- the second, third and fourth kind of a ring's answer
-says_none : (s : List ℕ) (t : ring.Carried) → ((size next : ℕ) → t ≡ ring-case.Packet size next → ⊥)
-    → found_brings s (found_in t) ≡ none (without (why_ring t))
-says_none s (ring-case.Packet size next) other = absurd (other size next refl)
-says_none s ring-case.Empty other = refl
-says_none s (ring-case.Skipped why next) other = refl
-says_none s (ring-case.Refused why) other = refl
+      let b : region.packet_of most r id ≡ region.part_of r p.size = sym (pcc-says.told_packet most r id says is) in
+      let f : region.notify_of most r id ≡ p.notify = sym (pcc-says.told_notify most r id says is) in
+      rw (eq-eqb (region.refusal_of most r id) 0 z, b, f)
 
 module _
     (most : ℕ)
@@ -86,10 +76,10 @@ module _
     (flags : Flags)
     (read write : ℕ)
     (out : List ℕ)
-    (t : ring.Carried)
+    (t : Result ring.Found Refusal)
     (told : found_in t ≡ ring-says.found_of most bytes configured (may_read (state_of flags)) read write (length out))
   where
-    module _ (u : ring.Carried) (is : t ≡ u) where
+    module _ (u : Result ring.Found Refusal) (is : t ≡ u) where
       said : ring-says.found_of most bytes configured (may_read (state_of flags)) read write (length out)
           ≡ found_in u
       said = sym told ∙ ap found_in is
@@ -100,15 +90,11 @@ module _
       unfolding ring_brings
       ring_brings_lem = ap (found_brings (round_from read bytes)) said
 
-    pub ring_none : ((size next : ℕ) → t ≡ ring-case.Packet size next → ⊥)
-        → ring_brings most bytes configured flags read write out ≡ none (without (why_ring t))
-    ring_none other = ring_brings_lem t refl ∙ says_none (round_from read bytes) t other
-
-    module _ (size next : ℕ) (is : t ≡ ring-case.Packet size next) where
+    module _ (size next : ℕ) (is : t ≡ Ok (ring-case.Packet size next)) where
       found : Good most bytes configured (may_read (state_of flags)) read write (length out) size next
       found =
           good most bytes configured (may_read (state_of flags)) read write (length out) size next
-          (said (ring-case.Packet size next) is)
+          (said (Ok (ring-case.Packet size next)) is)
 
       pub ring_fits : size ≤ length out
       ring_fits = omega (arith, found.room, found.largest)
@@ -127,6 +113,6 @@ module _
       unfolding fronted
       ring_front =
           ap (λ (f : ring-says.Found). take size (ring-says.output_after f (round_from read bytes) out))
-          (said (ring-case.Packet size next) is)
+          (said (Ok (ring-case.Packet size next)) is)
           ∙ take_at (ring_layout.packet_of (round_from read bytes))
           (drop (length (ring_layout.packet_of (round_from read bytes))) out) size sized

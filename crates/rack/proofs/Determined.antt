@@ -4,6 +4,7 @@ use mathlib.Core.Path.{◌≡◌, refl, ap}
 use mathlib.Core.List.{List}
 use Prim.Native.Nat.{ℕ}
 use contract.Lifetimes.{Lfts}
+use Rattle.std.proofs.Common.{Result, Ok, Err}
 use Rattle.octets.proofs.Choice.{determined}
 use Rattle.mctp.proofs.Refusals.{number_injective}
 use Rattle.receiver.proofs.Determined.{says_injective}
@@ -12,7 +13,6 @@ use Rattle.ring.specs.Reading.{output_of}
 use Rattle.rack.specs.declared.answer.NoPacket.{NoPacket}
 use Rattle.rack.specs.declared.answer.NoPacket.TheVariants.{Empty, Skipped, Refused}
 use Rattle.rack.specs.declared.answer.Arrived.{Arrived}
-use Rattle.rack.specs.declared.answer.Arrived.TheVariants.{Given, Nothing}
 use Rattle.rack.specs.declared.answer.Received.{Received}
 use Rattle.rack.specs.Arrivals.{by_smbus, by_pcc, by_ring, without, brings}
 use Rattle.rack.specs.Answers.{tells, AfterArrival, after_arrival, arrived_of}
@@ -32,11 +32,14 @@ without_injective (Refused r) Empty e = cc
 without_injective (Refused r) (Skipped s q) e = cc
 without_injective (Refused r) (Refused s) e = ap Refused (number_injective r s (cc))
 
-tells_injective : (a b : Arrived) → tells a ≡ tells b → a ≡ b
-tells_injective (Given k x) (Given j y) e = cc (says_injective x y (cc))
-tells_injective (Given k x) (Nothing w) e = cc
-tells_injective (Nothing v) (Given j y) e = cc
-tells_injective (Nothing v) (Nothing w) e = ap Nothing (without_injective v w (cc))
+tells_injective : (a b : Result Arrived NoPacket) → tells a ≡ tells b → a ≡ b
+tells_injective (Ok k) (Ok j) e =
+    let beside : k.beside ≡ j.beside = cc in
+    let answer = says_injective k.answer j.answer (cc) in
+    λ i. Ok (record { beside = beside i; answer = answer i })
+tells_injective (Ok k) (Err w) e = cc
+tells_injective (Err v) (Ok j) e = cc
+tells_injective (Err v) (Err w) e = ap Err (without_injective v w (cc))
 
 -- the answer, the receiver and every byte of the memory
 after_injective : (o q : Received) (m n : List ℕ) → after_arrival o m ≡ after_arrival q n → (o ≡ q) × (m ≡ n)
@@ -56,13 +59,13 @@ pub from_pcc_arrives : (κs : Lfts 2) (a r e : _) → pcc.Post κs a r e
 from_pcc_arrives κs a r e p = p
 
 pub from_ring_arrives : (κs : Lfts 3) (a r e : _) → ring.Post κs a r e
-    → (after_arrival r e.1.1.1.1.1.1.0.now
-    ≡ arrived_of 64 a.1.1.1.1.1.1.1.0 a.1.1.1.1.1.0 a.1.1.1.1.1.1.0.now
+    → (after_arrival r e.1.1.1.1.0.now
+    ≡ arrived_of 64 a.1.1.1.1.1.0 a.1.1.1.0 a.1.1.1.1.0.now
     (brings 64
-    (by_ring a.0.now a.1.0 a.1.1.0 a.1.1.1.0.read a.1.1.1.0.write a.1.1.1.1.0.now)))
-    × (e.1.1.1.1.0.now
-    ≡ output_of 64 a.0.now a.1.0 (may_read (state_of a.1.1.0)) a.1.1.1.0.read a.1.1.1.0.write
-    a.1.1.1.1.0.now)
+    (by_ring a.0.now a.1.0.configured a.1.0.flags a.1.0.pointers.read a.1.0.pointers.write a.1.1.0.now)))
+    × (e.1.1.0.now
+    ≡ output_of 64 a.0.now a.1.0.configured (may_read (state_of a.1.0.flags)) a.1.0.pointers.read
+    a.1.0.pointers.write a.1.1.0.now)
 from_ring_arrives κs a r e p = p
 
 -- .. and leaves no choice.
@@ -76,8 +79,8 @@ from_pcc_determined κs a r q e f p o = after_injective r q _ _ (determined p o)
 
 -- from a ring, of the output too
 pub from_ring_determined : (κs : Lfts 3) (a r q e f : _) → ring.Post κs a r e → ring.Post κs a q f
-    → ((r ≡ q) × (e.1.1.1.1.1.1.0.now ≡ f.1.1.1.1.1.1.0.now))
-    × (e.1.1.1.1.0.now ≡ f.1.1.1.1.0.now)
+    → ((r ≡ q) × (e.1.1.1.1.0.now ≡ f.1.1.1.1.0.now))
+    × (e.1.1.0.now ≡ f.1.1.0.now)
 from_ring_determined κs a r q e f p o = (after_injective r q _ _ (determined p.0 o.0), determined p.1 o.1)
 
 -- No call asks anything of its arguments first.

@@ -1,11 +1,11 @@
 -- What an arrival call answers and leaves (document 01, "Putting messages together" and the refusal table).
 -- Assumes nothing.
-use Rattle.std.specs.Prelude.{ℕ, List}
+use Rattle.std.specs.Prelude.{ℕ, List, Result, Ok, Err}
 use Rattle.slots.specs.declared.state.Receiver.{Receiver}
 use Rattle.receiver.specs.Step as rules
 use Rattle.rack.specs.declared.answer.Beside.{Beside}
 use Rattle.rack.specs.declared.answer.Arrived.{Arrived}
-use Rattle.rack.specs.declared.answer.Arrived.TheVariants.{Given, Nothing}
+use Rattle.rack.specs.declared.answer.NoPacket.{NoPacket}
 use Rattle.rack.specs.declared.answer.Received.{Received}
 use Rattle.rack.specs.Arrivals.{Without, without, Brought, packet, none}
 
@@ -15,9 +15,9 @@ pub data Told : Type 0 where
   given : Beside → rules.Said → Told
   nothing : Without → Told
 
-abbrev pub tells : Arrived → Told
-tells (Given beside answer) = given beside (rules.says answer)
-tells (Nothing why) = nothing (without why)
+abbrev pub tells : Result Arrived NoPacket → Told
+tells (Ok arrived) = given arrived.beside (rules.says arrived.answer)
+tells (Err why) = nothing (without why)
 
 -- all that a call leaves
 pub record AfterArrival : Type 0 where

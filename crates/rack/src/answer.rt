@@ -1,6 +1,6 @@
 // What an arrival call answers.
 use mctp::Refusal;
-use receiver::Answer;
+use receiver::Kept;
 use slots::Receiver;
 
 // What the carrier knows beside the packet: the SMBus source address, the PCC notify flag, or the ring's new read
@@ -12,6 +12,13 @@ pub enum Beside {
     Next(usize),
 }
 
+// A packet was found, and this is what the message rules answer.
+#[derive(Clone, Copy)]
+pub struct Arrived {
+    pub beside: Beside,
+    pub answer: Result<Kept, Refusal>,
+}
+
 // Why there is no packet.
 #[derive(Clone, Copy)]
 pub enum NoPacket {
@@ -20,19 +27,23 @@ pub enum NoPacket {
     // The ring's packet is not one for the message rules; the pointer after it.
     Skipped { refusal: Refusal, next: usize },
     // The carrier refused.
-    Refused { refusal: Refusal },
+    Refused(Refusal),
 }
 
-#[derive(Clone, Copy)]
-pub enum Arrived {
-    // A packet was found, and this is what the message rules answer.
-    Given { beside: Beside, answer: Answer },
-    Nothing { why: NoPacket },
+impl From<Refusal> for NoPacket {
+    ghost use Rattle.std.specs.Prelude.{◌≡◌};
+    ghost use Rattle.rack.specs.declared.answer.NoPacket.TheVariants.{Refused};
+
+    ghost from_gives = { λ refusal why. why ≡ Refused refusal };
+
+    fn from(refusal: Refusal) -> NoPacket {
+        NoPacket::Refused(refusal)
+    }
 }
 
 // The answer, and the receiver as the call leaves it.
 #[derive(Clone, Copy)]
 pub struct Received {
-    pub arrived: Arrived,
+    pub arrived: Result<Arrived, NoPacket>,
     pub receiver: Receiver,
 }

@@ -3,7 +3,6 @@
 
 mod answer;
 mod path;
-mod why;
 
 pub use answer::{Arrived, Beside, NoPacket, Received};
 pub use path::{from_pcc, from_ring, from_smbus};

@@ -3,13 +3,12 @@
 use Rattle.rack.proofs.Carriers.{pcc_none, pcc_packet}
 use Rattle.rack.proofs.path.from_pcc.Goals as goal
 
-pub returns-in_default : goal.returns-in_default
-returns-in_default c =
-    let none = pcc_none _ _ _ c.read-carried.result c.read-carried.ensures c.in_default.field-0 c.in_default.is in
-    rw (c.no_packet.ensures, c.pcc.ensures, none)
-
-pub returns : goal.returns
-returns c =
-    let packet = pcc_packet _ _ _ c.read-carried.result c.read-carried.ensures c.in-Packet.size c.in-Packet.notify
-    c.in-Packet.is in
+pub returns-in-Ok : goal.returns-in-Ok
+returns-in-Ok c =
+    let packet = pcc_packet _ _ _ c.read.result c.read.ensures c.in-Ok.packet c.in-Ok.is in
     rw (packet, c.give.ensures, c.part.ensures)
+
+pub returns-in-Err : goal.returns-in-Err
+returns-in-Err c =
+    let none = pcc_none _ _ _ c.read.result c.read.ensures c.in-Err.refusal c.in-Err.is in
+    rw (c.no_packet.ensures, c.into.ensures, none)

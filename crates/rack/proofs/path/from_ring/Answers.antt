@@ -1,34 +1,46 @@
 -- `rack::path::from_ring` meets its contract: what the ring's own promise says of the output holds whatever the message
 -- rules answer.
 -- Assumes nothing.
-use native.Mathlib.Nat.{sub-zero}
+use mathlib.Core.Path.{ap, ◌∙◌}
 use native.Mathlib.Omega.{arith}
-use Rattle.rack.proofs.Carriers.{ring_brings_lem, ring_none, ring_fits, ring_front}
+use Rattle.std.proofs.Common.{Ok, rules}
+use Rattle.rack.proofs.Carriers.{ring_brings_lem, ring_fits, ring_front}
 use Rattle.rack.proofs.path.from_ring.Goals as goal
-
-pub returns-in_default : goal.returns-in_default
-returns-in_default c =
-    let a = c.args in
-    let none = ring_none _ _ _ a.flags _ _ a.out.now c.read-carried.result c.read-carried.ensures.answer
-    c.in_default.not-Packet in record {
-      arrival = rw (c.no_packet.ensures, c.ring.ensures, none);
-      output = c.read-carried.ensures.output;
-    }
 
 pub slice_bounds-give-end : goal.slice_bounds-give-end
 slice_bounds-give-end c =
-    let a = c.args in
-    let fits = ring_fits _ _ _ a.flags _ _ a.out.now c.read-carried.result c.read-carried.ensures.answer _ _
-    c.in-Packet.is in
+    let fits = ring_fits _ _ _ c.args.offered.flags _ _ c.args.out.now c.read.result c.read.ensures.answer _ _
+    (c.in-Ok-Packet.is ∙ ap Ok c.in-Ok-Packet.field-0-is) in
     omega arith
 
-pub returns : goal.returns
-returns c =
-    let a = c.args in
-    let brings = ring_brings_lem _ _ _ a.flags _ _ a.out.now c.read-carried.result c.read-carried.ensures.answer _
-    c.in-Packet.is in
-    let front = ring_front _ _ _ a.flags _ _ a.out.now c.read-carried.result c.read-carried.ensures.answer _ _
-    c.in-Packet.is in record {
-      arrival = rw (brings, c.give.ensures, ← front, ← c.read-carried.ensures.output, sub-zero c.in-Packet.size);
-      output = c.read-carried.ensures.output;
-    }
+pub slice_bounds-give-end-in-Ok-Packet : goal.slice_bounds-give-end-in-Ok-Packet
+slice_bounds-give-end-in-Ok-Packet c =
+    let fits = ring_fits _ _ _ c.args.offered.flags _ _ c.args.out.now c.read.result c.read.ensures.answer _ _
+    (c.in-Ok-Packet.is ∙ ap Ok c.in-Ok-Packet.field-0-is) in search rules
+
+pub returns-in-Ok-Packet-clause-arrival : goal.returns-in-Ok-Packet-clause-arrival
+returns-in-Ok-Packet-clause-arrival c =
+    let o = c.args.offered in
+    let brings = ring_brings_lem _ _ _ o.flags _ _ c.args.out.now c.read.result c.read.ensures.answer _
+    (c.in-Ok-Packet.is ∙ ap Ok c.in-Ok-Packet.field-0-is) in
+    let front = ring_front _ _ _ o.flags _ _ c.args.out.now c.read.result c.read.ensures.answer _ _
+    (c.in-Ok-Packet.is ∙ ap Ok c.in-Ok-Packet.field-0-is) in
+    rw (brings, c.give.ensures, ← front, ← c.read.ensures.output)
+
+pub returns-in-Ok-Empty-clause-arrival : goal.returns-in-Ok-Empty-clause-arrival
+returns-in-Ok-Empty-clause-arrival c =
+    let brings = ring_brings_lem _ _ _ c.args.offered.flags _ _ c.args.out.now c.read.result c.read.ensures.answer _
+    (c.in-Ok-Empty.is ∙ ap Ok c.in-Ok-Empty.field-0-is) in
+    rw (c.no_packet.ensures, brings)
+
+pub returns-in-Ok-Skipped-clause-arrival : goal.returns-in-Ok-Skipped-clause-arrival
+returns-in-Ok-Skipped-clause-arrival c =
+    let brings = ring_brings_lem _ _ _ c.args.offered.flags _ _ c.args.out.now c.read.result c.read.ensures.answer _
+    (c.in-Ok-Skipped.is ∙ ap Ok c.in-Ok-Skipped.field-0-is) in
+    rw (c.no_packet-in-Ok-Skipped.ensures, brings)
+
+pub returns-in-Err-clause-arrival : goal.returns-in-Err-clause-arrival
+returns-in-Err-clause-arrival c =
+    let brings = ring_brings_lem _ _ _ c.args.offered.flags _ _ c.args.out.now c.read.result c.read.ensures.answer _
+    c.in-Err.is in
+    rw (c.no_packet-in-Err.ensures, c.into.ensures, brings)

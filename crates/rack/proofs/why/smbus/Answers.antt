@@ -1,6 +1,0 @@
--- `rack::why::smbus` meets its contract.
--- Assumes nothing.
-use Rattle.rack.proofs.why.smbus.Goals as goal
-
-pub returns-in-Refused : goal.returns-in-Refused
-returns-in-Refused c = rw c.in-Refused.is
