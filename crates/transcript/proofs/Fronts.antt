@@ -1,14 +1,15 @@
--- A part moved to the front byte by byte: the bytes that it has yet to read stand behind those that it has written.
+-- A part moved to the front.
 -- Assumes nothing.
 use mathlib.Core.Path.{◌≡◌, refl, ap, sym, ◌∙◌}
-use mathlib.Core.List.{List, [], ◌∷◌}
-use Prim.Native.Nat.{ℕ, suc, ◌+◌, ◌-◌, ◌≤◌, ◌<◌, min}
-use native.Mathlib.Nat.{zero-add}
+use mathlib.Core.List.{List, [], ◌∷◌, ◌++◌}
+use Prim.Native.Nat.{ℕ, ◌+◌, ◌-◌, ◌≤◌, ◌<◌, min}
 use native.Mathlib.Omega.{arith}
-use lib.ListN.{length, get_or, take, drop, set, length-take, length-drop}
-use lib.Seq.{get_or-take, get_or-drop, length-take-le, take_all, take-add, take-append_seam, drop_at}
+use lib.ListN.{length, take, drop, length-take, length-drop}
+use lib.Seq.{length-take-le, take-add, take-append_seam, drop_at}
 use Rattle.octets.specs.Bytes.{laid, fronted}
-use Rattle.octets.proofs.Laid.{laid_next, laid_front, laid_behind}
+use Rattle.std.specs.List.{copy_within}
+use Rattle.std.proofs.lemmas.List.{take_min}
+use Rattle.octets.proofs.Laid.{laid_front, laid_fits}
 use Rattle.transcript.specs.Front.{between, moved_of}
 
 no_bytes : (l : List ℕ) → length l ≡ 0 → l ≡ []
@@ -16,10 +17,6 @@ no_bytes [] h = refl
 no_bytes (x ∷ l) h = absurd (omega arith)
 
 module _ (s : List ℕ) (from end : ℕ) where
-  -- the list with the first i bytes moved
-  abbrev pub moved_up_to : ℕ → List ℕ
-  moved_up_to i = laid s 0 (take i (between s from end))
-
   pub between_size : length (between s from end) ≡ min end (length s) - from
   unfolding between
   between_size = simp (length-take, length-drop) (omega arith)
@@ -38,23 +35,16 @@ module _ (s : List ℕ) (from end : ℕ) where
       let none : between s from end ≡ [] = no_bytes (between s from end) (omega (arith, between_size)) in
       (omega (arith, between_size), rw none)
 
-  -- all of it
-  pub moved_all : (n : ℕ) → n ≡ min end (length s) - from → moved_up_to n ≡ moved_of s from end
-  unfolding moved_of
-  moved_all n e = ap (laid s 0) (take_all n (between s from end) (omega (arith, between_size)))
-
-  -- one byte more
-  pub moved_next : (i : ℕ) → i < min end (length s) - from
-      → set (moved_up_to i) i (get_or (moved_up_to i) (from + i) 0) ≡ moved_up_to (suc i)
-  unfolding between
-  moved_next i h =
-      let size = between_size in
-      let first = length-take-le i (between s from end) (omega arith) in
-      let here : get_or (moved_up_to i) (from + i) 0 ≡ get_or (between s from end) i 0 =
-      laid_behind s 0 (take i (between s from end)) (from + i) (omega arith)
-      ∙ sym (get_or-take (end - from) (drop from s) i 0 (omega arith) ∙ get_or-drop from s i 0) in
-      rw here (ap (λ (k : ℕ). set (moved_up_to i) k (get_or (between s from end) i 0)) (sym (zero-add i))
-      ∙ laid_next s 0 (between s from end) i (omega arith))
+  -- a copy of what there is up to the end is the part moved
+  pub moved_copied : (stop : ℕ) → stop ≡ min end (length s) → from < stop → copy_within s from stop 0 ≡ moved_of s from end
+  unfolding moved_of between
+  moved_copied stop is h =
+      let count : stop - from ≡ min (end - from) (length (drop from s)) = omega (arith, length-drop from s) in
+      let moved : take (stop - from) (drop from s) ≡ between s from end =
+      ap (λ (n : ℕ). take n (drop from s)) count ∙ take_min (end - from) (drop from s) in
+      let size : length (between s from end) ≡ stop - from = omega (arith, between_size) in
+      let fits = laid_fits s 0 (between s from end) (omega (arith, size)) in
+      (λ i. moved i ++ drop (0 + sym size i) s) ∙ sym fits
 
   -- what was moved stands at the front
   pub moved_front : take (length (between s from end)) (moved_of s from end) ≡ between s from end

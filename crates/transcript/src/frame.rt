@@ -29,20 +29,15 @@ pub fn frame_line(
     ensures output { output.new ≡ put output.old at
         (after_frame before memory.old frame.now).text }
 {
-    let receiver = before.receiver;
-    let received = rack::from_smbus(frame, state::ADDRESS, receiver, memory, state::TIME);
-    let arrived = received.arrived;
-    let after = received.receiver;
-    let arrivals = state::one_more(before.arrivals);
-    let packets = state::with_packet(arrived, before.packets);
-    let line = line::line_of(arrived);
-    let behind = records::put_line(output, at, arrivals, line);
+    let received = rack::from_smbus(frame, state::ADDRESS, before.receiver, memory, state::TIME);
+    let after = State {
+        receiver: received.receiver,
+        arrivals: state::one_more(before.arrivals),
+        packets: state::with_packet(received.arrived, before.packets),
+    };
+    let line = line::line_of(received.arrived);
     Framed {
-        state: State {
-            receiver: after,
-            arrivals: arrivals,
-            packets: packets,
-        },
-        behind: behind,
+        state: after,
+        behind: records::put_line(output, at, after.arrivals, line),
     }
 }

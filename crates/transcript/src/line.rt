@@ -1,40 +1,41 @@
 // What an arrival's answer is as a line.
-ghost use Rattle.std.specs.Prelude.{◌≡◌};
+ghost use Rattle.std.specs.Prelude.{◌≡◌, Err};
 ghost use Rattle.rack.specs.Answers.{tells};
 ghost use Rattle.rack.specs.Arrivals.{without};
 ghost use Rattle.receiver.specs.Step.{says};
 ghost use Rattle.transcript.specs.Line.{line_of_said, line_without, line_of};
 
+use mctp::Refusal;
 use rack::{Arrived, NoPacket};
-use receiver::Answer;
+use receiver::Kept;
 use records::Line;
 
-pub fn line_of(arrived: Arrived) -> Line
+pub fn line_of(arrived: Result<Arrived, NoPacket>) -> Line
     ensures { result ≡ line_of (tells arrived) }
 {
     match arrived {
-        Arrived::Given { beside: _, answer } => line_of_answer(answer),
-        Arrived::Nothing { why } => line_without(why),
+        Ok(arrived) => line_of_answer(arrived.answer),
+        Err(why) => line_without(why),
     }
 }
 
-fn line_of_answer(answer: Answer) -> Line
+fn line_of_answer(answer: Result<Kept, Refusal>) -> Line
     ensures { result ≡ line_of_said (says answer) }
 {
     match answer {
-        Answer::Refused { refusal } => Line::Refused {
-            number: refusal.number(),
-        },
-        Answer::Held { slot, bytes, again } => Line::Held { slot, bytes, again },
-        Answer::Done {
+        Ok(Kept::Held { slot, bytes, again }) => Line::Held { slot, bytes, again },
+        Ok(
+            Kept::Done {
+                slot,
+                length,
+                again,
+            },
+        ) => Line::Done {
             slot,
             length,
             again,
-        } => Line::Done {
-            slot,
-            length,
-            again,
         },
+        Err(refusal) => refused(refusal),
     }
 }
 
@@ -43,11 +44,14 @@ fn line_without(why: NoPacket) -> Line
 {
     match why {
         NoPacket::Empty => Line::Refused { number: 0 },
-        NoPacket::Skipped { refusal, next: _ } => Line::Refused {
-            number: refusal.number(),
-        },
-        NoPacket::Refused { refusal } => Line::Refused {
-            number: refusal.number(),
-        },
+        NoPacket::Skipped { refusal, .. } | NoPacket::Refused(refusal) => refused(refusal),
+    }
+}
+
+fn refused(refusal: Refusal) -> Line
+    ensures { result ≡ line_of_said (says (Err refusal)) }
+{
+    Line::Refused {
+        number: refusal.number(),
     }
 }

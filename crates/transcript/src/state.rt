@@ -4,7 +4,7 @@ ghost use Rattle.rack.specs.Answers.{tells};
 ghost use Rattle.transcript.specs.State.{start, one_more, with_packet};
 
 use mctp::Eid;
-use rack::Arrived;
+use rack::{Arrived, NoPacket};
 use slots::Receiver;
 
 // "Own address 0x20, EID 9"
@@ -27,30 +27,27 @@ pub struct State {
 pub fn set_up() -> State
     ensures { result ≡ start }
 {
-    let changed = slots::set_up(OWN, LIMIT);
-    let receiver = changed.receiver;
     State {
-        receiver: receiver,
+        receiver: slots::set_up(OWN, LIMIT).receiver,
         arrivals: 0,
         packets: 0,
     }
 }
 
+#[tactic(auto, unfolding(crate::specs::State::one_more))]
 pub fn one_more(count: u64) -> u64
     ensures { result ≡ one_more count }
 {
-    if count < u64::MAX { count + 1 } else { count }
+    count.saturating_add(1)
 }
 
 // One more where a packet was found.
-pub fn with_packet(arrived: Arrived, count: u64) -> u64
+pub fn with_packet(arrived: Result<Arrived, NoPacket>, count: u64) -> u64
     ensures { result ≡ with_packet (tells arrived) count }
 {
-    match arrived {
-        Arrived::Given {
-            beside: _,
-            answer: _,
-        } => one_more(count),
-        Arrived::Nothing { why: _ } => count,
+    if arrived.is_ok() {
+        one_more(count)
+    } else {
+        count
     }
 }

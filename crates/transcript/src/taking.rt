@@ -44,8 +44,8 @@ pub fn chunk(before: State, memory: &mut [u8], input: &[u8], output: &mut [u8]) 
         read = end;
     }
     Taken {
-        state: state,
-        read: read,
-        written: written,
+        state,
+        read,
+        written,
     }
 }

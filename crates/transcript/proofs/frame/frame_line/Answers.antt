@@ -7,7 +7,7 @@ use Rattle.transcript.proofs.frame.frame_line.Goals as goal
 pub returns-clause-state : goal.returns-clause-state
 unfolding after_frame
 returns-clause-state c =
-    rw (c.with_packet-packets.ensures, c.one_more-arrivals.ensures, ← c.from_smbus-received.ensures)
+    rw (c.with_packet.ensures, c.one_more.ensures, ← c.from_smbus-received.ensures)
 
 pub returns-clause-memory : goal.returns-clause-memory
 unfolding after_frame
@@ -17,9 +17,9 @@ pub returns-clause-behind : goal.returns-clause-behind
 unfolding after_frame
 returns-clause-behind c =
     rw (
-      c.put_line-behind.ensures.place,
+      c.put_line.ensures.place,
       c.line_of-line.ensures,
-      c.one_more-arrivals.ensures,
+      c.one_more.ensures,
       ←
           c.from_smbus-received.ensures,
     )
@@ -28,9 +28,9 @@ pub returns-clause-output : goal.returns-clause-output
 unfolding after_frame
 returns-clause-output c =
     rw (
-      c.put_line-behind.ensures.output,
+      c.put_line.ensures.output,
       c.line_of-line.ensures,
-      c.one_more-arrivals.ensures,
+      c.one_more.ensures,
       ←
           c.from_smbus-received.ensures,
     )

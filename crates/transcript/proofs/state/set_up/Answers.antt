@@ -5,4 +5,4 @@ use Rattle.transcript.proofs.state.set_up.Goals as goal
 
 pub returns : goal.returns
 unfolding set_up_of
-returns c = rw c.set_up-changed.ensures.receiver
+returns c = rw c.set_up.ensures.receiver
