@@ -1,6 +1,6 @@
-// What a region answers that carries a packet.
+// What reading answers of a good region.
 
-// The packet's size, by which `part` cuts it out, and whether its sender asks for notice of completion.
+// Its packet: the size, by which `part` cuts it out, and whether its sender asks for notice of completion.
 #[derive(Clone, Copy, PartialEq, Eq)]
 pub struct Packet {
     pub size: usize,

@@ -58,7 +58,8 @@ module _ (destination source : ℕ) (packet : List ℕ) where
         ∙ laid_front out (frame_of destination source packet) (omega (arith, frame-length))
 
 -- The three pieces laid, and the PEC of them stored behind: nothing but the front changes.
-module _ (destination source : ℕ) (out header body : List ℕ) (room : 5 + (length header + length body) ≤ length out) where
+module _ (destination source : ℕ) (out header body : List ℕ)
+    (room : 5 + (length header + length body) ≤ length out) where
   abbrev copied : List ℕ
   copied = laid (laid (laid out 0 (head_apart destination source header body)) 4 header) (4 + length header) body
 

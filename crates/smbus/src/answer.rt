@@ -1,6 +1,6 @@
-// What a frame answers that carries a packet.
+// What reading answers of a good frame.
 
-// Who sent it; `part` cuts the packet out.
+// Its packet, which `part` cuts out: who sent it.
 #[derive(Clone, Copy, PartialEq, Eq)]
 pub struct Packet {
     pub source: u8,
