@@ -45,6 +45,9 @@ module _ (most size k : ℕ) (some : 1 ≤ most) where
   pub past_all : size ≤ k → size ≤ k * most
   past_all h = omega (arith, le-mul_of_pos_right {m = most} k (omega arith))
 
+-- a k that is past the end, and one that is not
+pub ruleset past_or_there = (counted, past_end, past_all)
+
 -- "end on the last": the one in which the message ends
 pub last_is : (most size k : ℕ) → 1 ≤ most → k * most < size
     → leb size (k * most + most) ≡ eqb (k + 1) (packets_in most size)

@@ -2,21 +2,16 @@
 -- isn't.
 -- Assumes nothing.
 use mathlib.Core.Path.{◌≡◌, refl, ap, sym, ◌∙◌}
-use mathlib.Core.Bool.{Bool, false}
+use mathlib.Core.Bool.{Bool}
 use mathlib.Core.List.{List, ◌++◌}
 use Prim.Native.Nat.{ℕ, ◌+◌, ◌≤◌, ◌<◌}
 use native.Mathlib.Omega.{arith}
 use borrow.Author.Tests.{ne_eqb, le-leb, lt-leb}
 use lib.Dec.{eqb}
 use lib.ListN.{length, length-append}
-use Rattle.octets.specs.Bytes.{part, laid, fronted}
+use Rattle.octets.specs.Bytes.{laid, fronted}
 use Rattle.octets.proofs.Choice.{either_way}
 use Rattle.octets.proofs.Laid.{laid-append, laid_front}
-use Rattle.mctp.specs.declared.packet.Header.{Header}
-use Rattle.mctp.specs.declared.refusal.Refusal.{Refusal}
-use Rattle.mctp.specs.Key.{header_bytes}
-use Rattle.mctp.specs.Refusals.{number_of}
-use Rattle.mctp.proofs.Refusals.{number_positive}
 use Rattle.smbus.specs.Writing as frames
 use Rattle.smbus.proofs.Answers.{output_unwritten as frame-unwritten}
 use Rattle.pcc.specs.Writing as regions
@@ -25,27 +20,11 @@ use Rattle.mmbi.specs.declared.interface.Flags.{Flags}
 use Rattle.mmbi.specs.declared.pointer.Pointers.{Pointers}
 use Rattle.mmbi.specs.Interface.{state_of, may_write}
 use Rattle.ring.specs.Writing as rings
-use Rattle.sender.specs.declared.cutting.Outline.{Outline}
-use Rattle.sender.specs.declared.cutting.Outline.TheVariants.{There}
 use Rattle.sender.specs.declared.heading.Heading.{Heading}
-use Rattle.sender.specs.Cutting.{packet_at, cut_refusal}
-use Rattle.sender.specs.Answers.{number_in, bytes_in}
+use Rattle.sender.specs.Cutting.{packet_at}
 use Rattle.sender.specs.Sending.{if_cut, cut_number, output_refusal, output_size, output_written}
 use Rattle.sender.specs.Sending.{smbus_refusal, smbus_size, smbus_written}
 use Rattle.sender.specs.Sending.{pcc_refusal, pcc_written, ring_entered, ring_written}
-
--- an outline of a packet that is there: packet k is its header's bytes and its part of the message
-pub told_there : (most : ℕ) (heading : Heading) (message : List ℕ) (k : ℕ) (r : Outline)
-    → (number_in r ≡ cut_refusal most heading (length message) k)
-    × ((other : List ℕ) → length other ≡ length message → number_in r ≡ 0
-    → bytes_in most other r ≡ packet_at most heading other k)
-    → (header : Header) (from : ℕ) (front body : List ℕ) → r ≡ There header from
-    → front ≡ header_bytes header → body ≡ part message from most
-    → (cut_number most heading message k ≡ 0) × (front ++ body ≡ packet_at most heading message k)
-told_there most heading message k r cut header from front body is f b = (
-  sym cut.0 ∙ ap number_in is,
-  (λ i. f i ++ b i) ∙ sym (ap (bytes_in most message) is) ∙ cut.1 message refl (ap number_in is),
-)
 
 -- laid one behind the other
 pub laid_pieces : (out header body : List ℕ) → length header ≡ 4 → 4 + length body ≤ length out
@@ -101,37 +80,6 @@ module _ (most : ℕ) (heading : Heading) (message : List ℕ) (k : ℕ) where
         ≡ ring_written most heading message k ring configured flags pointers)
     unfolding ring_entered ring_written
     by_ring_lem ring configured flags pointers = rw (e, is) (refl, refl)
-
-  -- it isn't: the number alone
-  module _ (why : Refusal) (e : number ≡ number_of why) where
-    not_there : eqb number 0 ≡ false
-    not_there = ne_eqb number 0 (λ (z : number ≡ 0). omega (arith, number_positive why))
-
-    pub not_by_output : (out : List ℕ)
-        → (number_of why ≡ output_refusal most heading message k (length out))
-        × (0 ≡ output_size most heading message k (length out))
-        × (out ≡ output_written most heading message k out)
-    unfolding output_refusal output_size output_written
-    not_by_output out = rw (not_there, not_there, e) (refl, refl, refl)
-
-    pub not_by_smbus : (out : List ℕ) (destination source : ℕ)
-        → (number_of why ≡ smbus_refusal most heading message k (length out) destination source)
-        × (0 ≡ smbus_size most heading message k (length out) destination source)
-        × (out ≡ smbus_written most heading message k out destination source)
-    unfolding smbus_refusal smbus_size smbus_written
-    not_by_smbus out destination source = rw (not_there, e) (refl, refl, refl)
-
-    pub not_by_pcc : (region : List ℕ) (id : ℕ) (notify : Bool)
-        → (number_of why ≡ pcc_refusal most heading message k (length region) id)
-        × (region ≡ pcc_written most heading message k region id notify)
-    unfolding pcc_refusal pcc_written
-    not_by_pcc region id notify = rw (not_there, e) (refl, refl)
-
-    pub not_by_ring : (ring : List ℕ) (configured : ℕ) (flags : Flags) (pointers : Pointers)
-        → (rings.refused (number_of why) ≡ ring_entered most heading message k (length ring) configured flags pointers)
-        × (ring ≡ ring_written most heading message k ring configured flags pointers)
-    unfolding ring_entered ring_written
-    not_by_ring ring configured flags pointers = rw (not_there, e) (refl, refl)
 
 -- "nothing is written": where the answer is a refusal, be it of cutting or the carrier's own, what was lent stays
 if_refused : (cut own : ℕ) (written lent : List ℕ) → (if_cut cut own cut ≡ 0 → ⊥)

@@ -1,42 +1,22 @@
--- What the sender's answers say, and the outline of a packet: the number, and the value that goes with it.
+-- What the sender's answers say: the number, and the value that goes with it.
 -- Assumes nothing.
-use Rattle.std.specs.Prelude.{ℕ, List, [], ◌++◌}
-use Rattle.octets.specs.Bytes.{part}
-use Rattle.mctp.specs.Key.{header_bytes}
-use Rattle.mctp.specs.Refusals.{number_of}
-use Rattle.sender.specs.declared.answer.Counted.{Counted}
-use Rattle.sender.specs.declared.answer.Counted.TheVariants as counted
-use Rattle.sender.specs.declared.cutting.Outline.{Outline}
-use Rattle.sender.specs.declared.cutting.Outline.TheVariants as outline
-use Rattle.sender.specs.declared.answer.Cut.{Cut}
-use Rattle.sender.specs.declared.answer.Cut.TheVariants as cut
+use Rattle.std.specs.Prelude.{ℕ, Result}
+use Rattle.std.specs.Result.{result_unwrap_or}
+use Rattle.mctp.specs.declared.refusal.Refusal.{Refusal}
+use Rattle.mctp.specs.Refusals.{outcome_number}
 
 -- the refusal number, 0 where counted
-abbrev pub number_counted : Counted → ℕ
-number_counted (counted.Packets packets) = 0
-number_counted (counted.Refused why) = number_of why
+abbrev pub number_counted : Result ℕ Refusal → ℕ
+number_counted answer = outcome_number answer
 
 -- the number of packets, 0 where refused
-abbrev pub packets_counted : Counted → ℕ
-packets_counted (counted.Packets packets) = packets
-packets_counted (counted.Refused why) = 0
-
--- the refusal number, 0 where the packet is there
-abbrev pub number_in : Outline → ℕ
-number_in (outline.There header from) = 0
-number_in (outline.Refused why) = number_of why
-
--- the packet's bytes, its body a part of the message; none where refused
-abbrev pub bytes_in : (most : ℕ) (message : List ℕ) → Outline → List ℕ
-bytes_in most message (outline.There header from) = header_bytes header ++ part message from most
-bytes_in most message (outline.Refused why) = []
+abbrev pub packets_counted : Result ℕ Refusal → ℕ
+packets_counted answer = result_unwrap_or answer 0
 
 -- the refusal number, 0 where cut
-abbrev pub number_cut : Cut → ℕ
-number_cut (cut.Packet size) = 0
-number_cut (cut.Refused why) = number_of why
+abbrev pub number_cut : Result ℕ Refusal → ℕ
+number_cut answer = outcome_number answer
 
 -- the packet's size, 0 where refused
-abbrev pub size_cut : Cut → ℕ
-size_cut (cut.Packet size) = size
-size_cut (cut.Refused why) = 0
+abbrev pub size_cut : Result ℕ Refusal → ℕ
+size_cut answer = result_unwrap_or answer 0

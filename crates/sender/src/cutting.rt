@@ -1,95 +1,93 @@
-// A message cut into packets: how many there are, and packet k as a header and a place in the message.
-ghost use Rattle.std.specs.Prelude.{◌≡◌, List, ℕ, ◌*◌, ◌≤◌, ◌<◌, length};
+// A message cut into packets: how many there are, and packet k as a header and a part of the message.
+ghost use Rattle.std.specs.Prelude.{◌≡◌, ◌++◌, ◌*◌, ◌≤◌, ◌<◌, length, IfOk};
 ghost use Rattle.mctp.specs.Refusals.{outcome_number};
 ghost use Rattle.sender.specs.Cutting.{message_right, packet_header, packet_at, count_refusal, count_of, cut_refusal};
-ghost use Rattle.sender.specs.Answers.{number_counted, packets_counted, number_in, bytes_in};
+ghost use Rattle.sender.specs.Answers.{number_counted, packets_counted};
 
-use crate::answer::Counted;
 use crate::heading::{Heading, heading_right};
-use mctp::{Header, LARGEST_BODY, Outcome, Refusal};
+use mctp::{Header, LARGEST_BODY, Refusal};
 
 // How many packets there are of a message.
-pub fn count(message: &[u8]) -> Counted
+pub fn count(message: &[u8]) -> Result<usize, Refusal>
     ensures number { number_counted result ≡ count_refusal 64 (length message.now) }
     ensures packets { packets_counted result ≡ count_of 64 (length message.now) }
 {
     count_within(LARGEST_BODY, message.len())
 }
 
-fn count_within(most: usize, size: usize) -> Counted
+#[tactic(auto, unfolding(crate::specs::Cutting::count_refusal, crate::specs::Cutting::count_of))]
+fn count_within(most: usize, size: usize) -> Result<usize, Refusal>
     ensures number { number_counted result ≡ count_refusal most size }
     ensures packets { packets_counted result ≡ count_of most size }
 {
     if !mctp::body_right(most) {
-        return Counted::Refused(Refusal::Setup);
+        return Err(Refusal::Setup);
     }
     if !message_right(size) {
-        return Counted::Refused(Refusal::Size);
+        return Err(Refusal::Size);
     }
-    Counted::Packets((size + (most - 1)) / most)
+    Ok((size + (most - 1)) / most)
 }
 
 fn message_right(size: usize) -> bool
     ensures { result ≡ message_right size }
 {
-    (1 <= size) & (size <= 1024)
+    (1..=1024).contains(&size)
 }
 
-// Packet k before it goes anywhere: its header, and where in the message its body begins; or the refusal.
+// Packet k before it goes anywhere: its header's bytes, and its body where it stands in the message.
 #[derive(Clone, Copy)]
-pub enum Outline {
-    There { header: Header, from: usize },
-    Refused(Refusal),
+pub struct Packet<'a> {
+    pub header: [u8; 4],
+    pub body: &'a [u8],
 }
 
-// Packet k of a message of this size: all that is refused before it goes anywhere is refused here.
-pub fn cut(most: usize, heading: Heading, size: usize, k: usize) -> Outline
-    ensures number { number_in result ≡ cut_refusal most heading size k }
-    ensures packet { (message : List ℕ) → length message ≡ size → number_in result ≡ 0
-        → bytes_in most message result ≡ packet_at most heading message k }
+// Packet k of a message: all that is refused before it goes anywhere is refused here.
+#[tactic(auto, using(crate::proofs::Cuts::there), unfolding(crate::specs::Cutting::packet_at))]
+pub fn cut(most: usize, message: &[u8], heading: Heading, k: usize) -> Result<Packet<'_>, Refusal>
+    ensures number { outcome_number result ≡ cut_refusal most heading (length message.now) k }
+    ensures header { IfOk result (λ packet. length packet.header ≡ 4) }
+    ensures packet { IfOk result (λ packet. packet.header ++ packet.body.now ≡ packet_at most heading message.now k) }
 {
-    match may_cut(most, heading, size, k) {
-        Outcome::Good => Outline::There {
-            header: packet_header(most, heading, size, k),
-            from: k * most,
-        },
-        Outcome::Refused(why) => Outline::Refused(why),
-    }
+    let size = message.len();
+    may_cut(most, heading, size, k)?;
+    Ok(Packet {
+        header: mctp::header_bytes(packet_header(most, heading, size, k)),
+        body: octets::part(message, k * most, most),
+    })
 }
 
 // A packet has a byte at least, so k is below 1,024, and k × most can't wrap; nothing is divided.
-fn may_cut(most: usize, heading: Heading, size: usize, k: usize) -> Outcome
+#[tactic(auto, using(crate::proofs::Cuts::past_or_there), unfolding(crate::specs::Cutting::cut_refusal))]
+fn may_cut(most: usize, heading: Heading, size: usize, k: usize) -> Result<(), Refusal>
     ensures { outcome_number result ≡ cut_refusal most heading size k }
 {
-    if !mctp::body_right(most) {
-        return Outcome::Refused(Refusal::Setup);
-    }
-    if !heading_right(heading) {
-        return Outcome::Refused(Refusal::Setup);
+    if !mctp::body_right(most) || !heading_right(heading) {
+        return Err(Refusal::Setup);
     }
     if !message_right(size) {
-        return Outcome::Refused(Refusal::Size);
+        return Err(Refusal::Size);
     }
     if 1024 <= k {
-        return Outcome::Refused(Refusal::PastEnd);
+        return Err(Refusal::PastEnd);
     }
     if size <= k * most {
-        return Outcome::Refused(Refusal::PastEnd);
+        return Err(Refusal::PastEnd);
     }
-    Outcome::Good
+    Ok(())
 }
 
 // The header of packet k, of a message of this size that has one.
+#[tactic(auto, using(crate::proofs::Cuts::last_is), unfolding(crate::specs::Cutting::packet_header))]
 fn packet_header(most: usize, heading: Heading, size: usize, k: usize) -> Header
     requires { (1 ≤ most) × (most ≤ 246) × (k * most < size) × (size ≤ 1024) }
     ensures { result ≡ packet_header most heading size k }
 {
-    let key = heading.key;
     Header {
         version: 1,
         start: k == 0,
         end: size <= k * most + most,
         sequence: ((heading.first as usize + k) % 4) as u8,
-        key: key,
+        key: heading.key,
     }
 }

@@ -1,12 +1,10 @@
 // The sending half: a message cut into packets, each written where it is to go, with no copy in between.
 #![tactic(auto)]
 
-mod answer;
 mod cutting;
 mod heading;
 mod sending;
 
-pub use answer::{Counted, Cut};
 pub use cutting::count;
 pub use heading::Heading;
 pub use sending::{to_output, to_pcc, to_ring, to_smbus};
