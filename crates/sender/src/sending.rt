@@ -13,7 +13,7 @@ ghost use Rattle.sender.specs.Sending.{ring_entered, ring_written};
 use crate::cutting::cut;
 use crate::heading::Heading;
 use mctp::{LARGEST_BODY, Refusal};
-use mmbi::{Flags, Pointers};
+use ring::Offered;
 
 // Packet k at the output's front, the rest unchanged: its size. Nothing is written where the answer is a refusal.
 #[tactic(auto, unfolding(crate::specs::Sending::output_refusal, crate::specs::Sending::output_size))]
@@ -96,26 +96,16 @@ pub fn to_pcc(
 #[tactic(auto, unfolding(crate::specs::Sending::ring_entered, crate::specs::Sending::ring_written))]
 pub fn to_ring(
     ring: &mut [u8],
-    configured: usize,
-    flags: Flags,
-    pointers: Pointers,
+    offered: Offered,
     message: &[u8],
     heading: Heading,
     k: usize,
 ) -> Result<usize, Refusal>
     ensures answer { entered_in result ≡ ring_entered 64 heading message.now k
-        (length ring.old) configured flags pointers }
+        (length ring.old) offered.configured offered.flags offered.pointers }
     ensures ring { ring.new ≡ ring_written 64 heading message.now k
-        ring.old configured flags pointers }
+        ring.old offered.configured offered.flags offered.pointers }
 {
     let packet = cut(LARGEST_BODY, message, heading, k)?;
-    ring::write_apart(
-        LARGEST_BODY,
-        ring,
-        configured,
-        flags,
-        pointers,
-        &packet.header,
-        packet.body,
-    )
+    ring::write_apart(LARGEST_BODY, ring, offered, &packet.header, packet.body)
 }
