@@ -33,7 +33,8 @@ use Rattle.ring.specs.Round.{round_from, stored}
 use Rattle.ring.specs.Layout.{padding_for, header_for, whole_for, ring_bytes}
 use Rattle.ring.specs.Runs.{arrival_ring}
 use Rattle.ring.specs.Writing as putting
-use Rattle.ring.specs.declared.answer.Carried.TheVariants as case
+use Rattle.ring.specs.declared.reading.Found.TheVariants as case
+use Rattle.std.proofs.Common.{Ok}
 use Rattle.ring.proofs.Layouts.{round_bytes}
 use Rattle.ring.proofs.RoundTrip as ring-round
 use Rattle.slots.specs.declared.state.Receiver.{Receiver}
@@ -121,7 +122,7 @@ module _ (most : ℕ) where
   unfolding fronted
   ring_found bytes configured flags read write p next out may e =
       let gives : ring-round.Gives most bytes configured (may_read (state_of flags)) read write out p next = rw may e in
-      let answer = case.Packet (length p) next in
+      let answer = Ok (case.Packet (length p) next) in
       let front = ring_front most bytes configured flags read write out answer (sym gives.0) (length p) next refl in
       ring_brings_lem most bytes configured flags read write out answer (sym gives.0) answer refl
       ∙ ap (λ (q : List ℕ). packet q (Next next))

@@ -64,7 +64,7 @@ use Rattle.slots.proofs.set_up.Reads as set_up
 use Rattle.slots.proofs.tallies_of.Reads as tallies-of
 use Rattle.window.specs.Places.{refusal_of, place_in, area_of}
 use Rattle.window.specs.Words.{interface_in, store_refusal, stored, stored_pointer, stored_flags}
-use Rattle.window.proofs.refusal.Reads as window-refusal
+use Rattle.window.proofs.check.Reads as window-check
 use Rattle.window.proofs.place_of.Reads as place_of
 use Rattle.window.proofs.area.Reads as area
 use Rattle.window.proofs.interface_of.Reads as interface-of
@@ -124,23 +124,25 @@ pub pcc_write_apart_is : (κs : Lfts 3) (a r e : _) → pcc-write-apart.Post κs
     × (e.1.0.now ≡ regions.written_of a.0 a.1.0.now a.1.1.0 a.1.1.1.0 packet)
 pcc_write_apart_is κs a r e p = (p.0, p.1)
 
--- the ring: its bytes, the configured length, the flags, the pointers, and a packet
+-- the ring: its bytes, what is offered beside them (the configured length, the flags, the pointers), and a packet
 pub ring_write_is : (κs : Lfts 2) (a r e : _) → ring-write.Post κs a r e
-    → (entered_in r ≡ putting.entered_of 64 (length a.0.now) a.1.0 (may_write (state_of a.1.1.0))
-    a.1.1.1.0.read a.1.1.1.0.write (length a.1.1.1.1.0.now))
-    × (e.0.now ≡ putting.written_of 64 a.0.now a.1.0 (may_write (state_of a.1.1.0))
-    a.1.1.1.0.read a.1.1.1.0.write a.1.1.1.1.0.now)
+    → let o = a.1.0 in
+    let running = may_write (state_of o.flags) in
+    (entered_in r
+    ≡ putting.entered_of 64 (length a.0.now) o.configured running o.pointers.read o.pointers.write
+    (length a.1.1.0.now))
+    × (e.0.now ≡ putting.written_of 64 a.0.now o.configured running o.pointers.read o.pointers.write a.1.1.0.now)
 ring_write_is κs a r e p = (p.0, p.1)
 
 pub ring_write_apart_is : (κs : Lfts 3) (a r e : _) → ring-write-apart.Post κs a r e
-    → let packet = a.1.1.1.1.1.0.now ++ a.1.1.1.1.1.1.0.now in
-    let running = may_write (state_of a.1.1.1.0) in
-    let pointers = a.1.1.1.1.0 in
+    → let packet = a.1.1.1.0.now ++ a.1.1.1.1.0.now in
+    let o = a.1.1.0 in
+    let running = may_write (state_of o.flags) in
     (entered_in r
-    ≡ putting.entered_of a.0 (length a.1.0.now) a.1.1.0 running pointers.read pointers.write
+    ≡ putting.entered_of a.0 (length a.1.0.now) o.configured running o.pointers.read o.pointers.write
     (length packet))
     × (e.1.0.now
-    ≡ putting.written_of a.0 a.1.0.now a.1.1.0 running pointers.read pointers.write packet)
+    ≡ putting.written_of a.0 a.1.0.now o.configured running o.pointers.read o.pointers.write packet)
 ring_write_apart_is κs a r e p = (p.0, p.1)
 
 -- the sender: a header; a message; an output, a message, its heading and k; and what the carrier's writer takes, with
@@ -179,12 +181,13 @@ pub to_pcc_is : (κs : Lfts 2) (a r e : _) → to-pcc.Post κs a r e
 to_pcc_is κs a r e p = (p.0, p.1)
 
 pub to_ring_is : (κs : Lfts 2) (a r e : _) → to-ring.Post κs a r e
-    → let message = a.1.1.1.1.0.now in
-    let heading = a.1.1.1.1.1.0 in
-    let k = a.1.1.1.1.1.1.0 in
+    → let o = a.1.0 in
+    let message = a.1.1.0.now in
+    let heading = a.1.1.1.0 in
+    let k = a.1.1.1.1.0 in
     (entered_in r
-    ≡ sent.ring_entered 64 heading message k (length a.0.now) a.1.0 a.1.1.0 a.1.1.1.0)
-    × (e.0.now ≡ sent.ring_written 64 heading message k a.0.now a.1.0 a.1.1.0 a.1.1.1.0)
+    ≡ sent.ring_entered 64 heading message k (length a.0.now) o.configured o.flags o.pointers)
+    × (e.0.now ≡ sent.ring_written 64 heading message k a.0.now o.configured o.flags o.pointers)
 to_ring_is κs a r e p = (p.0, p.1)
 
 -- the window, by itself; with a configuration, and then an area, or a word's place with a word or a pointer
@@ -192,9 +195,9 @@ pub read_descriptor_is : (κs : Lfts 1) (a r e : _) → read-descriptor.Post κs
     → described_in r ≡ described_of a.0.now
 read_descriptor_is κs a r e p = p
 
-pub window_refusal_is : (κs : Lfts 1) (a r e : _) → window-refusal.Post κs a r e → r
-    ≡ refusal_of (length a.0.now) a.1.0
-window_refusal_is κs a r e p = p
+pub window_check_is : (κs : Lfts 1) (a r e : _) → window-check.Post κs a r e
+    → outcome_number r ≡ refusal_of (length a.0.now) a.1.0
+window_check_is κs a r e p = p
 
 pub place_of_is : (κs : Lfts 1) (a r e : _) → place_of.Post κs a r e → r
     ≡ place_in (length a.0.now) a.1.0 a.1.1.0
@@ -207,17 +210,17 @@ pub interface_of_is : (κs : Lfts 1) (a r e : _) → interface-of.Post κs a r e
 interface_of_is κs a r e p = p
 
 pub store_is : (κs : Lfts 1) (a r e : _) → store.Post κs a r e
-    → (r ≡ store_refusal (length a.0.now) a.1.0 a.1.1.0 a.1.1.1.0.pointer)
+    → (outcome_number r ≡ store_refusal (length a.0.now) a.1.0 a.1.1.0 a.1.1.1.0.pointer)
     × (e.0.now ≡ stored a.0.now a.1.0 a.1.1.0 a.1.1.1.0)
 store_is κs a r e p = p
 
 pub store_pointer_is : (κs : Lfts 1) (a r e : _) → store-pointer.Post κs a r e
-    → (r ≡ store_refusal (length a.0.now) a.1.0 a.1.1.0 a.1.1.1.0)
+    → (outcome_number r ≡ store_refusal (length a.0.now) a.1.0 a.1.1.0 a.1.1.1.0)
     × (e.0.now ≡ stored_pointer a.0.now a.1.0 a.1.1.0 a.1.1.1.0)
 store_pointer_is κs a r e p = p
 
 pub store_flags_is : (κs : Lfts 1) (a : _) (r : _) (e : _) → store-flags.Post κs a r e
-    → (r ≡ refusal_of (length a.0.now) a.1.0)
+    → (outcome_number r ≡ refusal_of (length a.0.now) a.1.0)
     × (e.0.now ≡ stored_flags a.0.now a.1.0 a.1.1.0)
 store_flags_is κs a r e p = p
 
