@@ -3,7 +3,6 @@
 ghost use Rattle.std.specs.Prelude.{◌≡◌, length};
 ghost use Rattle.bench.specs.Sending.{nothing_sent, Sends};
 
-use std::io;
 use std::io::Write;
 
 // How many bytes were handed over.
@@ -35,29 +34,8 @@ pub fn send(rt: HostRuntime, before: Result<Sent, Unsent>, text: &[u8]) -> Resul
             bytes: sent.bytes.saturating_add(text.len() as u64),
         }),
         Err(error) => {
-            fail(rt, "bench: standard output", error);
+            told::fail(rt, "bench: standard output", error);
             Err(Unsent(()))
         }
-    }
-}
-
-// What failed and why on standard error, as the system words it, without its number; with the number where no memory is
-// left to cut it off.
-pub fn fail(rt: HostRuntime, what: &str, error: io::Error) {
-    match format!(in rt.alloc(); "{error}") {
-        Ok(whole) => {
-            let reason = without_number(whole.as_str());
-            let _ = eprintln!(rt; "{what}: {reason}");
-        }
-        Err(_) => {
-            let _ = eprintln!(rt; "{what}: {error}");
-        }
-    }
-}
-
-fn without_number(error: &str) -> &str {
-    match error.split_once(" (os error ") {
-        Some((reason, _)) => reason,
-        None => error,
     }
 }
