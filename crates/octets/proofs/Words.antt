@@ -3,8 +3,9 @@
 use mathlib.Core.Path.{◌≡◌, refl, ap, sym, ◌∙◌}
 use mathlib.Core.List.{List, [], ◌∷◌, ◌++◌}
 use Prim.Native.Nat.{ℕ, ◌+◌, ◌/◌, ◌%◌, ◌^◌, ◌≤◌, ◌<◌}
-use native.Mathlib.Nat.{add_assoc, add-zero, zero-add, mul-zero, mod-eq_of_lt, mod-add-div, div-div-eq-div-mul}
+use native.Mathlib.Nat.{add_assoc, add-zero, zero-add}
 use native.Mathlib.Omega.{arith}
+use Rattle.std.proofs.lemmas.Nat.{from_le_bytes-to_le_bytes_4}
 use lib.Dec.{lit<}
 use lib.ListN.{length, get_or, take, drop, length-drop, get_or-eq_default}
 use lib.Seq.{get_or-append-add, get_or-take, get_or-drop, length-take-le}
@@ -16,20 +17,7 @@ use Rattle.octets.specs.Words.{Order, low_first, high_first, value, word_at, wor
 -- the word's four bytes make the word again
 bytes_value : (w : ℕ) → w < 2 ^ 32
     → value ((w % 256) ∷ (w / 256 % 256) ∷ (w / 65536 % 256) ∷ (w / 16777216 % 256) ∷ []) ≡ w
-bytes_value w h =
-    let two : w / 65536 ≡ w / 256 / 256 = sym (div-div-eq-div-mul w 256 256) in
-    let three : w / 16777216 ≡ w / 256 / 256 / 256 =
-    sym (ap (λ (q : ℕ). q / 256) (div-div-eq-div-mul w 256 256) ∙ div-div-eq-div-mul w 65536 256) in
-    let top : w / 256 / 256 / 256 < 256 = omega arith in
-    rw (
-      two,
-      three,
-      mod-eq_of_lt top,
-      mul-zero 256,
-      add-zero (w / 256 / 256 / 256),
-      mod-add-div (w / 256 / 256) 256,
-      mod-add-div (w / 256) 256,
-    ) (mod-add-div w 256)
+bytes_value w h = omega (arith, from_le_bytes-to_le_bytes_4 w h)
 
 -- a word that stands at the front reads back
 pub word_back : (o : Order) (w : ℕ) (rest : List ℕ) → w < 2 ^ 32 → word_at o (word_bytes o w ++ rest) 0 ≡ w

@@ -47,6 +47,7 @@ pub fn put_last_line(out: &mut [u8], at: usize, arrivals: u64, packets: u64) -> 
     put(out, at, text.as_bytes())
 }
 
+// A line of these bytes, put whole or not at all.
 fn put(out: &mut [u8], at: usize, line: &[u8]) -> usize
     ensures place { result ≡ place_after out.old at line.now }
     ensures output { out.new ≡ put out.old at line.now }
@@ -59,6 +60,7 @@ fn put(out: &mut [u8], at: usize, line: &[u8]) -> usize
     }
 }
 
+// Line `number`, its line feed at the end.
 fn written(number: u64, line: Line) -> Text
     ensures { letters result ≡ line_bytes number line }
 {

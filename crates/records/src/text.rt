@@ -4,7 +4,7 @@ ghost use Rattle.std.specs.Prelude.{◌≡◌, ◌+◌, ◌≤◌, [], ◌++◌,
 use crate::decimal::lay_decimal;
 use crate::line::LINE_ROOM;
 
-// The letters stand at the front of the room.
+// The letters stand at the front of the room. What lays them is inlined: a word of known length is then a few stores.
 #[derive(Drop)]
 pub struct Text {
     bytes: [u8; LINE_ROOM],
@@ -33,6 +33,7 @@ impl Text {
         &self.bytes[..self.len]
     }
 
+    #[inline]
     pub fn word(&mut self, word: &[u8])
         requires { self.old.len + length word.now ≤ LINE_ROOM }
         ensures letters { letters self.new ≡ letters self.old ++ word.now }
@@ -42,6 +43,7 @@ impl Text {
         self.len += word.len();
     }
 
+    #[inline]
     pub fn number(&mut self, n: u64)
         requires { self.old.len + 20 ≤ LINE_ROOM }
         ensures letters { letters self.new ≡ letters self.old ++ decimal n }
@@ -51,6 +53,7 @@ impl Text {
     }
 
     // A word and its number.
+    #[inline]
     pub fn named(&mut self, word: &[u8], n: u64)
         requires { self.old.len + length word.now + 20 ≤ LINE_ROOM }
         ensures letters { letters self.new ≡ letters self.old ++ named word.now n }
@@ -61,6 +64,7 @@ impl Text {
     }
 
     // ` again` after a restart, and the line's end.
+    #[inline]
     pub fn end(&mut self, again: bool)
         requires { self.old.len + 7 ≤ LINE_ROOM }
         ensures { letters self.new ≡ letters self.old ++ ending again }
