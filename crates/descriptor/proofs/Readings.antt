@@ -96,6 +96,7 @@ far_ring s long small signed far =
     rw (
       le-leb 64 (length s) long,
       signed,
-      false_from_ne_true (allowed (length s) (configuration_in s)) (λ (e : _). never_far s small far (allowed_facts _ _ e)),
+      false_from_ne_true (allowed (length s) (configuration_in s))
+          (λ (e : _). never_far s small far (allowed_facts _ _ e)),
       and-false (version_right s && type_right s),
     )

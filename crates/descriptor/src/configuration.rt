@@ -7,7 +7,7 @@ use crate::place::Place;
 
 // B2H and H2B are the rings from the controller to the host and back; `ros` and `rws` are the offsets of Host_ROS and
 // Host_RWS.
-#[derive(Clone, Copy)]
+#[derive(Clone, Copy, PartialEq, Eq)]
 pub struct Configuration {
     pub b2h: Place,
     pub h2b: Place,
@@ -16,7 +16,7 @@ pub struct Configuration {
 }
 
 // What lies in the window besides the descriptor.
-#[derive(Clone, Copy)]
+#[derive(Clone, Copy, PartialEq, Eq)]
 pub enum Area {
     B2h,
     H2b,

@@ -15,13 +15,13 @@ use Rattle.ring.proofs.writing.write.Reads as write
 use Rattle.ring.proofs.writing.write_apart.Reads as write-apart
 
 -- the answer of `read`, and the output
-pub read_determined : (κs : Lfts 2) (a : _) (r q : Result Found Refusal) (e f : _) → read.Post κs a r e → read.Post κs a q f
-    → (r ≡ q) × (e.1.1.0.now ≡ f.1.1.0.now)
+pub read_determined : (κs : Lfts 2) (a : _) (r q : Result Found Refusal) (e f : _)
+    → read.Post κs a r e → read.Post κs a q f → (r ≡ q) × (e.1.1.0.now ≡ f.1.1.0.now)
 read_determined κs a r q e f p o = (found_injective r q (determined p.0 o.0), determined p.1 o.1)
 
 -- the answer of `write`, and the ring
-pub write_determined : (κs : Lfts 2) (a : _) (r q : Result ℕ Refusal) (e f : _) → write.Post κs a r e → write.Post κs a q f
-    → (r ≡ q) × (e.0.now ≡ f.0.now)
+pub write_determined : (κs : Lfts 2) (a : _) (r q : Result ℕ Refusal) (e f : _)
+    → write.Post κs a r e → write.Post κs a q f → (r ≡ q) × (e.0.now ≡ f.0.now)
 write_determined κs a r q e f p o = (entered_injective r q (determined p.0 o.0), determined p.1 o.1)
 
 -- the answer of `write_apart`, and the ring
@@ -30,8 +30,12 @@ pub write_apart_determined : (κs : Lfts 3) (a : _) (r q : Result ℕ Refusal) (
 write_apart_determined κs a r q e f p o = (entered_injective r q (determined p.0 o.0), determined p.1 o.1)
 
 -- with the base's largest body, `write_apart` answers and leaves what `write` does of the packet that the pieces make
-pub apart_is_whole : (κs : Lfts 3) (ls : Lfts 2) (a b : _) (r q : Result ℕ Refusal) (e f : _) → write-apart.Post κs a r e
-    → write.Post ls b q f → a.0 ≡ 64 → a.1.0.now ≡ b.0.now → a.1.1.0.configured ≡ b.1.0.configured
+pub apart_is_whole : (κs : Lfts 3) (ls : Lfts 2) (a b : _) (r q : Result ℕ Refusal) (e f : _)
+    → write-apart.Post κs a r e
+    → write.Post ls b q f
+    → a.0 ≡ 64
+    → a.1.0.now ≡ b.0.now
+    → a.1.1.0.configured ≡ b.1.0.configured
     → a.1.1.0.flags ≡ b.1.0.flags
     → a.1.1.0.pointers ≡ b.1.0.pointers
     → a.1.1.1.0.now ++ a.1.1.1.1.0.now ≡ b.1.1.0.now

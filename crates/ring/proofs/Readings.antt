@@ -19,7 +19,8 @@ use Rattle.ring.specs.Layout.{header_at, whole_of, padding_field, type_field, si
 use Rattle.ring.specs.Reading.{Found, packet, empty, skipped, refused, read_order, header_order, judged, found_of}
 use Rattle.ring.specs.Reading.{output_after, output_of}
 use Rattle.ring.specs.Round.{round_from}
-use Rattle.ring.proofs.Numbers.{SetUp, set_up_facts, set_up_holds, pointers_facts, pointers_holds, filled_below, next_below}
+use Rattle.ring.proofs.Numbers.{SetUp, set_up_facts, set_up_holds, pointers_facts, pointers_holds}
+use Rattle.ring.proofs.Numbers.{filled_below, next_below}
 use Rattle.ring.proofs.Rounds.{round-length, round_round}
 
 -- what a good input is, each fact by its name

@@ -217,7 +217,10 @@ copied_round ring p n out a b h k l over ea eb =
     ap (λ (j : ℕ). rest ++ drop j out) long ∙ sym (laid_front out rest (omega (arith, long))) in
     let fits : length (take m ring) ≡ m = length-take-le m ring (omega arith) in
     let start : length ring - p ≡ 0 + length rest = omega (arith, long) in
-    rw (whole, eb, front, laid_copied (laid out 0 rest) (length ring - p) m (take m ring) (sym fits) (omega (arith, laid-length out 0 rest)))
+    let copied =
+    laid_copied (laid out 0 rest) (length ring - p) m (take m ring) (sym fits)
+    (omega (arith, laid-length out 0 rest)) in
+    rw (whole, eb, front, copied)
     (ap (λ (j : ℕ). laid (laid out 0 rest) j (take m ring)) start
     ∙ sym (laid-append out 0 rest (take m ring))
     ∙ ap (λ (s : List ℕ). laid out 0 (rest ++ s)) (sym (take-take m p ring (omega arith)))

@@ -15,7 +15,7 @@ pub fn set_up_right(most: usize, length: usize, lent: usize) -> bool
 }
 
 // A ring's length, as 1 lets it through, and its pointers, as 12 does.
-#[derive(Clone, Copy)]
+#[derive(Clone, Copy, PartialEq, Eq)]
 pub struct Pointed {
     pub length: usize,
     pub read: usize,

@@ -5,7 +5,7 @@ ghost use Rattle.mmbi.specs.Interface.{state_of, may_read, may_write};
 use mmbi::{Flags, Pointers};
 
 // The ring's length as it is configured, both ends' flags, and the ring's pointers.
-#[derive(Clone, Copy)]
+#[derive(Clone, Copy, PartialEq, Eq)]
 pub struct Offered {
     pub configured: usize,
     pub flags: Flags,

@@ -12,7 +12,7 @@ use mctp::Refusal;
 use octets::HighFirst;
 
 // What a ring holds at its read pointer.
-#[derive(Clone, Copy)]
+#[derive(Clone, Copy, PartialEq, Eq)]
 pub enum Found {
     // A packet: its size and the new read pointer.
     Packet { size: usize, next: usize },

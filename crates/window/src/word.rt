@@ -12,7 +12,7 @@ use mmbi::{Act, Change, Flags, Pointers, Word};
 use octets::HighFirst;
 
 // The four pointers, by the words that hold them: H2B_WP and B2H_RP in Host_RWS, B2H_WP and H2B_RP in Host_ROS.
-#[derive(Clone, Copy)]
+#[derive(Clone, Copy, PartialEq, Eq)]
 pub enum Pointer {
     H2bWrite,
     B2hRead,
@@ -63,7 +63,7 @@ impl Pointer {
 }
 
 // Everything that the four words say.
-#[derive(Clone, Copy)]
+#[derive(Clone, Copy, PartialEq, Eq)]
 pub struct Interface {
     pub flags: Flags,
     pub b2h: Pointers,

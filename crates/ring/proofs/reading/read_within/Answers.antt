@@ -26,7 +26,8 @@ next-at-requires c =
 
 pub copy_out-requires : goal.copy_out-requires
 copy_out-requires c =
-    rw c.next-at.ensures (good_copied _ _ _ _ _ _ _ _ _ (good _ _ _ _ _ _ _ _ _ (packet c.in_ok-found.ensures c.in-Packet.is)))
+    let g = good _ _ _ _ _ _ _ _ _ (packet c.in_ok-found.ensures c.in-Packet.is) in
+    rw c.next-at.ensures (good_copied _ _ _ _ _ _ _ _ _ g)
 
 pub returns-in-Packet-clause-output : goal.returns-in-Packet-clause-output
 returns-in-Packet-clause-output c =
