@@ -1,29 +1,31 @@
 // The SMBus frame.
-use crate::text;
-use smbus::Carried;
+use crate::ORDER;
+use crate::bytes::Bytes;
+use mctp::Refusal;
+use smbus::Packet;
+use told::{Answer, Page, SmbusPacket};
 
-// From address 17 to address 32.
-fn make(frame: &mut [u8]) {
-    let packet = crate::ORDER;
-    smbus::write(frame, &packet, 32, 17);
-}
-
-pub fn show(rt: HostRuntime) {
-    let mut frame = [0u8; 10];
-    make(&mut frame);
-    text::show(rt, &frame, 0, 10);
-}
-
-pub fn read(rt: HostRuntime, own: u8) {
-    let mut frame = [0u8; 10];
-    make(&mut frame);
-    let size = smbus::packet(&frame, own).len();
-    let carried = smbus::read(&frame, own);
-    match carried {
-        Carried::Packet { source } => {
-            text::put_number(rt, b"good, packet of ", size);
-            text::put_number(rt, b" bytes from address ", source as usize);
-        }
-        Carried::Refused(why) => text::refused(rt, why),
+pub fn tell(page: &mut Page) {
+    let mut frame = [0; 10];
+    let _ = smbus::write(&mut frame, &ORDER, 32, 17);
+    page.section("SMBus");
+    page.line(
+        "smbus packet 01 09 0A C8 00 from address 17 to address 32 is the frame",
+        Bytes(&frame),
+    );
+    for (words, own) in [
+        ("smbus that frame read at address 32: ", 32),
+        ("smbus that frame read at address 33: ", 33),
+        ("smbus that frame read at address 128: ", 128),
+    ] {
+        page.line(words, Answer(read(&frame, own)));
     }
+}
+
+fn read(frame: &[u8], own: u8) -> Result<SmbusPacket, Refusal> {
+    let Packet { source } = smbus::read(frame, own)?;
+    Ok(SmbusPacket {
+        size: smbus::packet(frame, own).len(),
+        source,
+    })
 }

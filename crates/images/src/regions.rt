@@ -1,33 +1,33 @@
 // The PCC region.
-use crate::text;
+use crate::ORDER;
+use crate::bytes::Bytes;
+use mctp::Refusal;
+use pcc::Packet;
+use told::{Answer, Page, PccPacket};
 
-fn make(region: &mut [u8]) {
-    let packet = crate::ORDER;
-    pcc::write(region, 3, true, &packet);
-}
-
-pub fn show(rt: HostRuntime) {
-    let mut region = [0u8; 84];
-    make(&mut region);
-    text::show(rt, &region, 0, 21);
-}
-
-pub fn read(rt: HostRuntime, size: usize, id: u32) {
-    let mut region = [0u8; 84];
-    make(&mut region);
-    tell(rt, pcc::read(octets::part(&region, 0, size), id));
-}
-
-fn tell(rt: HostRuntime, carried: pcc::Carried) {
-    match carried {
-        pcc::Carried::Packet { size, notify } => {
-            text::put_number(rt, b"good, packet of ", size);
-            if notify {
-                text::put(rt, b" bytes, notify set");
-            } else {
-                text::put(rt, b" bytes, notify clear");
-            }
-        }
-        pcc::Carried::Refused(why) => text::refused(rt, why),
+pub fn tell(page: &mut Page) {
+    let mut region = [0; 84];
+    let _ = pcc::write(&mut region, 3, true, &ORDER);
+    page.section("PCC");
+    page.line(
+        "pcc packet 01 09 0A C8 00 under id 3 with notify is the region",
+        Bytes(&region[..21]),
+    );
+    for (words, bytes, id) in [
+        ("pcc that region read under id 3: ", &region[..], 3),
+        ("pcc that region read under id 4: ", &region[..], 4),
+        ("pcc that region read under id 256: ", &region[..], 256),
+        (
+            "pcc that region without its last byte, 83 bytes: ",
+            &region[..83],
+            3,
+        ),
+    ] {
+        page.line(words, Answer(read(bytes, id)));
     }
+}
+
+fn read(region: &[u8], id: u32) -> Result<PccPacket, Refusal> {
+    let Packet { size, notify } = pcc::read(region, id)?;
+    Ok(PccPacket { size, notify })
 }

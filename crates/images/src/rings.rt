@@ -1,57 +1,151 @@
 // The bytes of the MMBI ring, all FF before a packet is written.
-use crate::text;
+use crate::ORDER;
+use crate::bytes::Bytes;
+use mctp::Refusal;
 use mmbi::{Flags, Pointers};
-use ring::{Carried, Written};
+use ring::{Found, Offered};
+use std::fmt;
+use told::{Answer, Page, Refused};
 
-fn store(bytes: &mut [u8], read: usize, write: usize, flags: Flags) -> Written {
-    let packet = crate::ORDER;
-    ring::write(bytes, 128, flags, Pointers { read, write }, &packet)
+const EMPTY: [u8; 128] = [0xFF; 128];
+
+pub fn tell(page: &mut Page) {
+    page.section("MMBI ring of 128 bytes, all FF before");
+    page.line(
+        "ring packet 01 09 0A C8 00 written with read 0, write 0: ",
+        Answer(write(running(0, 0))),
+    );
+    let bytes = holding(0);
+    page.line("ring bytes 0 to 11:", Bytes(&bytes[..12]));
+    page.line("ring bytes 12 to 15:", Bytes(&bytes[12..16]));
+    tell_read(page, &bytes);
+    tell_written(page);
+    tell_over_the_end(page);
 }
 
-pub fn write(rt: HostRuntime, read: usize, write: usize, flags: Flags) {
-    let mut bytes = [0xFFu8; 128];
-    let stored = store(&mut bytes, read, write, flags);
-    match stored {
-        Written::Refused(why) => text::refused(rt, why),
-        Written::Stored(next) => text::put_number(rt, b"good, new write pointer ", next),
+fn tell_read(page: &mut Page, bytes: &[u8]) {
+    for (words, offered) in [
+        ("ring read with read 0, write 12: ", running(0, 12)),
+        ("ring read with read 12, write 12: ", running(12, 12)),
+        (
+            "ring read with read 0, write 8, which cuts the packet: ",
+            running(0, 8),
+        ),
+        ("ring read with read 2, write 12: ", running(2, 12)),
+        ("ring read with read 0, write 128: ", running(0, 128)),
+        (
+            "ring read with read 0, write 12, while the host asks for a reset: ",
+            offer(0, 12, Flags::ASKED_BY_HOST),
+        ),
+        (
+            "ring read with read 0, write 12, while the controller asks for a reset: ",
+            offer(0, 12, Flags::ASKED_BY_CONTROLLER),
+        ),
+        (
+            "ring read with read 0, write 12, once the reset is acknowledged: ",
+            offer(0, 12, Flags::ACKNOWLEDGED),
+        ),
+    ] {
+        page.line(words, Answer(read(bytes, offered)));
     }
 }
 
-// Some bytes of a ring whose packet was written at a pointer.
-pub fn show(rt: HostRuntime, pointer: usize, from: usize, to: usize) {
-    let mut bytes = [0xFFu8; 128];
-    store(&mut bytes, pointer, pointer, Flags::NORMAL_RUNTIME);
-    text::show(rt, &bytes, from, to);
+fn tell_written(page: &mut Page) {
+    for (words, offered) in [
+        (
+            "ring packet 01 09 0A C8 00 written with read 0, write 0, while the host asks for a reset: ",
+            offer(0, 0, Flags::ASKED_BY_HOST),
+        ),
+        (
+            "ring packet 01 09 0A C8 00 written with read 0, write 0, while the controller asks for a reset: ",
+            offer(0, 0, Flags::ASKED_BY_CONTROLLER),
+        ),
+        (
+            "ring packet 01 09 0A C8 00 written with read 12, write 0, which leaves room for 8: ",
+            running(12, 0),
+        ),
+        (
+            "ring packet 01 09 0A C8 00 written with read 16, write 0, which leaves room for 12: ",
+            running(16, 0),
+        ),
+        (
+            "ring packet 01 09 0A C8 00 written with read 120, write 120, over the end: ",
+            running(120, 120),
+        ),
+    ] {
+        page.line(words, Answer(write(offered)));
+    }
 }
 
-// What reading such a ring tells.
-pub fn read(rt: HostRuntime, pointer: usize, read: usize, write: usize, flags: Flags) {
-    let mut bytes = [0xFFu8; 128];
-    store(&mut bytes, pointer, pointer, Flags::NORMAL_RUNTIME);
-    let mut packet = [0u8; 68];
-    let carried = ring::read(&bytes, 128, flags, Pointers { read, write }, &mut packet);
-    tell(rt, carried, &packet);
+fn tell_over_the_end(page: &mut Page) {
+    let bytes = holding(120);
+    let (front, end) = bytes.split_at(120);
+    page.line("ring bytes 120 to 127:", Bytes(end));
+    page.line("ring bytes 0 to 3:", Bytes(&front[..4]));
+    page.line(
+        "ring read with read 120, write 4: ",
+        Answer(read(&bytes, running(120, 4))),
+    );
 }
 
-fn tell(rt: HostRuntime, carried: Carried, packet: &[u8]) {
-    match carried {
-        Carried::Empty => text::put(rt, b"empty"),
-        Carried::Refused(why) => text::refused(rt, why),
-        Carried::Skipped {
-            refusal: why,
-            next: next,
-        } => {
-            text::refused(rt, why);
-            tell_next(rt, next);
-        }
-        Carried::Packet { size, next } => {
-            text::put(rt, b"good, packet");
-            text::show(rt, packet, 0, size);
-            tell_next(rt, next);
+fn offer(read: usize, write: usize, flags: Flags) -> Offered {
+    Offered {
+        configured: 128,
+        flags,
+        pointers: Pointers { read, write },
+    }
+}
+
+fn running(read: usize, write: usize) -> Offered {
+    offer(read, write, Flags::NORMAL_RUNTIME)
+}
+
+// The new write pointer of a packet that was written.
+#[derive(Drop)]
+struct Stored(usize);
+
+impl fmt::Display for Stored {
+    fn fmt<W: fmt::Write>(&self, f: &mut fmt::Formatter<W>) -> fmt::Result {
+        write!(f, "good, new write pointer {}", self.0)
+    }
+}
+
+fn write(offered: Offered) -> Result<Stored, Refusal> {
+    let mut bytes = EMPTY;
+    ring::write(&mut bytes, offered, &ORDER).map(Stored)
+}
+
+// A ring whose packet was written at this pointer.
+fn holding(pointer: usize) -> [u8; 128] {
+    let mut bytes = EMPTY;
+    let _ = ring::write(&mut bytes, running(pointer, pointer), &ORDER);
+    bytes
+}
+
+// What was found in a ring, and the packet copied out.
+#[derive(Drop)]
+struct Taken {
+    found: Found,
+    packet: [u8; 68],
+}
+
+impl fmt::Display for Taken {
+    fn fmt<W: fmt::Write>(&self, f: &mut fmt::Formatter<W>) -> fmt::Result {
+        match self.found {
+            Found::Empty => write!(f, "empty"),
+            Found::Skipped { refusal, next } => {
+                write!(f, "{}, new read pointer {next}", Refused(refusal))
+            }
+            Found::Packet { size, next } => {
+                let packet = Bytes(&self.packet[..size.min(68)]);
+                write!(f, "good, packet{packet}, new read pointer {next}")
+            }
         }
     }
 }
 
-fn tell_next(rt: HostRuntime, next: usize) {
-    text::put_number(rt, b", new read pointer ", next);
+fn read(bytes: &[u8], offered: Offered) -> Result<Taken, Refusal> {
+    let mut packet = [0; 68];
+    let found = ring::read(bytes, offered, &mut packet)?;
+    Ok(Taken { found, packet })
 }

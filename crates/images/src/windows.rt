@@ -1,27 +1,47 @@
 // What lies in the window by the descriptor: rings, structures and words.
-use crate::{descriptors, text};
-use descriptor::{Area, Configuration, Configured};
+ghost use Rattle.std.specs.Prelude.{◌+◌, ◌≤◌, length};
+
+use crate::bytes::Bytes;
+use crate::descriptors::DESCRIPTOR;
+use descriptor::{Area, Configuration, Place};
+use mctp::Refusal;
 use mmbi::{InterfaceState, Word};
+use std::fmt;
+use told::{Answer, Page};
 use window::{Interface, Pointer};
 
-pub fn show(rt: HostRuntime, place: u8) {
-    let mut window = [0u8; 512];
-    descriptors::lay(&mut window);
-    let configured = descriptor::read_descriptor(&window);
-    match configured {
-        Configured::Refused(why) => text::refused(rt, why),
-        Configured::Checked(c) => {
-            store(&mut window, c);
-            show_part(rt, &window, c, place);
-        }
-    }
+// A window of 512 bytes with the descriptor at its front, and what was read there.
+#[derive(Drop)]
+pub struct Window {
+    pub bytes: [u8; 512],
+    pub c: Configuration,
 }
 
-fn store(window: &mut [u8], c: Configuration) {
-    window::store(window, c, Pointer::H2bWrite, word(12, true, false));
-    window::store(window, c, Pointer::B2hRead, word(8, false, true));
-    window::store(window, c, Pointer::B2hWrite, word(20, true, false));
-    window::store(window, c, Pointer::H2bRead, word(0, false, true));
+impl Window {
+    // One with these bytes laid at a place behind the descriptor, and no others.
+    pub fn with(at: usize, laid: &[u8]) -> Result<Window, Refusal>
+        requires { at + length laid.now ≤ 512 }
+    {
+        let mut bytes = [0; 512];
+        bytes[..40].copy_from_slice(DESCRIPTOR);
+        bytes[at..at + laid.len()].copy_from_slice(laid);
+        let c = descriptor::read_descriptor(&bytes)?;
+        Ok(Window { bytes, c })
+    }
+
+    // One with a word stored for each pointer.
+    fn stored() -> Result<Window, Refusal> {
+        let Window { mut bytes, c } = Window::with(40, &[])?;
+        for (which, word) in [
+            (Pointer::H2bWrite, word(12, true, false)),
+            (Pointer::B2hRead, word(8, false, true)),
+            (Pointer::B2hWrite, word(20, true, false)),
+            (Pointer::H2bRead, word(0, false, true)),
+        ] {
+            window::store(&mut bytes, c, which, word)?;
+        }
+        Ok(Window { bytes, c })
+    }
 }
 
 fn word(pointer: usize, bit1: bool, bit0: bool) -> Word {
@@ -32,41 +52,87 @@ fn word(pointer: usize, bit1: bool, bit0: bool) -> Word {
     }
 }
 
-fn show_part(rt: HostRuntime, window: &[u8], c: Configuration, place: u8) {
-    match place {
-        0xD0 => tell_place(rt, window, c, Area::B2h),
-        0xD1 => tell_place(rt, window, c, Area::H2b),
-        0xD2 => tell_place(rt, window, c, Area::Ros),
-        0xD3 => tell_place(rt, window, c, Area::Rws),
-        0xE0 => text::show(rt, window::area(window, c, Area::Rws), 0, 8),
-        0xE1 => text::show(rt, window::area(window, c, Area::Ros), 0, 8),
-        _ => tell(rt, window::interface_of(window, c), place),
+pub fn tell_areas(page: &mut Page) {
+    for (words, which) in [
+        ("descriptor ring to the host: ", Area::B2h),
+        ("descriptor ring to the controller: ", Area::H2b),
+        ("descriptor Host_ROS: ", Area::Ros),
+        ("descriptor Host_RWS: ", Area::Rws),
+    ] {
+        page.line(words, Answer(place(which)));
     }
 }
 
-fn tell_place(rt: HostRuntime, window: &[u8], c: Configuration, which: Area) {
-    let place = window::place_of(window, c, which);
-    text::show_number(rt, place.length as usize);
-    text::put_number(rt, b" bytes from byte ", place.offset as usize);
-    text::put(rt, b" on");
+pub fn tell_words(page: &mut Page) {
+    page.section("MMBI words in the window of 512 bytes");
+    page.line(
+        "words H2B write pointer 12, host up, and B2H read pointer 8, host ready, are Host_RWS",
+        Answer(bytes_of(Area::Rws)),
+    );
+    page.line(
+        "words B2H write pointer 20, controller up, and H2B read pointer 0, controller ready, are Host_ROS",
+        Answer(bytes_of(Area::Ros)),
+    );
+    page.line("words read back: ", Answer(read_back()));
+}
+
+// Where an area lies.
+#[derive(Drop)]
+struct Lies(Place);
+
+impl fmt::Display for Lies {
+    fn fmt<W: fmt::Write>(&self, f: &mut fmt::Formatter<W>) -> fmt::Result {
+        write!(f, "{} bytes from byte {} on", self.0.length, self.0.offset)
+    }
+}
+
+fn place(which: Area) -> Result<Lies, Refusal> {
+    let stored = Window::stored()?;
+    Ok(Lies(window::place_of(&stored.bytes, stored.c, which)))
+}
+
+// The bytes of an area.
+#[derive(Drop)]
+struct Held {
+    window: Window,
+    which: Area,
+}
+
+impl fmt::Display for Held {
+    fn fmt<W: fmt::Write>(&self, f: &mut fmt::Formatter<W>) -> fmt::Result {
+        Bytes(window::area(&self.window.bytes, self.window.c, self.which)).fmt(f)
+    }
+}
+
+fn bytes_of(which: Area) -> Result<Held, Refusal> {
+    let window = Window::stored()?;
+    Ok(Held { window, which })
 }
 
 // What is read back of the words.
-fn tell(rt: HostRuntime, seen: Interface, place: u8) {
-    match place {
-        0xE2 => tell_state(rt, mmbi::state(seen.flags)),
-        0xE3 => text::show_number(rt, seen.b2h.read),
-        0xE4 => text::show_number(rt, seen.b2h.write),
-        0xE5 => text::show_number(rt, seen.h2b.read),
-        0xE6 => text::show_number(rt, seen.h2b.write),
-        0xE7 => text::put_if(rt, seen.host_ready, b", host ready"),
-        _ => text::put_if(rt, seen.controller_ready, b", controller ready"),
+#[derive(Drop)]
+struct ReadBack(Interface);
+
+impl fmt::Display for ReadBack {
+    fn fmt<W: fmt::Write>(&self, f: &mut fmt::Formatter<W>) -> fmt::Result {
+        let seen = self.0;
+        match mmbi::state(seen.flags) {
+            InterfaceState::NormalRuntime => write!(f, "normal runtime")?,
+            _ => write!(f, "not in normal runtime")?,
+        }
+        write!(f, ", B2H read {} write {}", seen.b2h.read, seen.b2h.write)?;
+        write!(f, ", H2B read {} write {}", seen.h2b.read, seen.h2b.write)?;
+        if seen.host_ready {
+            write!(f, ", host ready")?;
+        }
+        if seen.controller_ready {
+            write!(f, ", controller ready")?;
+        }
+        Ok(())
     }
 }
 
-fn tell_state(rt: HostRuntime, state: InterfaceState) {
-    match state {
-        InterfaceState::NormalRuntime => text::put(rt, b"normal runtime"),
-        _ => text::put(rt, b"not in normal runtime"),
-    }
+fn read_back() -> Result<ReadBack, Refusal> {
+    let stored = Window::stored()?;
+    Ok(ReadBack(window::interface_of(&stored.bytes, stored.c)))
 }

@@ -1,90 +1,140 @@
 // The words of Host_ROS (byte 64) and Host_RWS (byte 72) one bit at a time, and what a store answers and leaves there.
-use crate::{descriptors, text};
-use descriptor::{Configuration, Configured};
+use crate::bytes::Bytes;
+use crate::windows::Window;
+use mctp::Refusal;
 use mmbi::Word;
+use std::fmt;
+use told::{Answer, Page, Refused};
 use window::{Interface, Pointer};
 
-pub fn show(rt: HostRuntime, place: u8) {
-    let mut window = [0u8; 512];
-    descriptors::lay(&mut window);
-    lay_words(&mut window, place);
-    let configured = descriptor::read_descriptor(&window);
-    match configured {
-        Configured::Refused(why) => text::refused(rt, why),
-        Configured::Checked(c) => tell(rt, &mut window, c, place),
-    }
-}
-
-// What stands in both structures before the trial: one bit, bytes 1 to 16, or nothing.
-fn lay_words(window: &mut [u8], place: u8) {
-    match place {
-        0xF0 => octets::lay_byte(window, 75, 2),
-        0xF1 => octets::lay_byte(window, 75, 1),
-        0xF2 => octets::lay_byte(window, 79, 2),
-        0xF3 => octets::lay_byte(window, 79, 1),
-        0xF4 => octets::lay_byte(window, 67, 2),
-        0xF5 => octets::lay_byte(window, 67, 1),
-        0xF6 => octets::lay_byte(window, 71, 2),
-        0xF7 => octets::lay_byte(window, 71, 1),
-        0xF8 => octets::lay(
-            window,
-            64,
-            b"\x01\x02\x03\x04\x05\x06\x07\x08\x09\x0A\x0B\x0C\x0D\x0E\x0F\x10",
+pub fn tell_bits(page: &mut Page) {
+    page.section("MMBI words one bit at a time");
+    for (words, at, bits) in [
+        ("bit 1 of H2B_WP's word:", 75, 2),
+        ("bit 0 of H2B_WP's word:", 75, 1),
+        (
+            "bit 1 of B2H_RP's word is reserved, and sets nothing:",
+            79,
+            2,
         ),
-        _ => {}
+        ("bit 0 of B2H_RP's word:", 79, 1),
+        ("bit 1 of B2H_WP's word:", 67, 2),
+        ("bit 0 of B2H_WP's word:", 67, 1),
+        (
+            "bit 1 of H2B_RP's word is reserved, and sets nothing:",
+            71,
+            2,
+        ),
+        ("bit 0 of H2B_RP's word:", 71, 1),
+    ] {
+        page.line(words, Answer(with_bits(at, bits)));
+    }
+    page.line(
+        "bytes 01 to 10 in Host_ROS and Host_RWS: ",
+        Answer(with_bytes()),
+    );
+}
+
+pub fn tell_stores(page: &mut Page) {
+    page.section("MMBI words stored with both bits set, and Host_ROS and Host_RWS then");
+    for (words, which, pointer) in [
+        ("H2B write pointer 252: ", Pointer::H2bWrite, 252),
+        ("B2H read pointer 124: ", Pointer::B2hRead, 124),
+        ("B2H write pointer 124: ", Pointer::B2hWrite, 124),
+        ("H2B read pointer 252: ", Pointer::H2bRead, 252),
+        (
+            "H2B write pointer 254, no multiple of 4: ",
+            Pointer::H2bWrite,
+            254,
+        ),
+        (
+            "H2B write pointer 256, the ring's length: ",
+            Pointer::H2bWrite,
+            256,
+        ),
+        (
+            "B2H write pointer 128, the ring's length: ",
+            Pointer::B2hWrite,
+            128,
+        ),
+    ] {
+        page.line(words, Answer(store(which, pointer)));
     }
 }
 
-fn tell(rt: HostRuntime, window: &mut [u8], c: Configuration, place: u8) {
-    match place {
-        0xF8 => tell_pointers(rt, window::interface_of(window, c)),
-        0xF9 => tell_store(rt, window, c, Pointer::H2bWrite, 252),
-        0xFA => tell_store(rt, window, c, Pointer::B2hRead, 124),
-        0xFB => tell_store(rt, window, c, Pointer::B2hWrite, 124),
-        0xFC => tell_store(rt, window, c, Pointer::H2bRead, 252),
-        0xFD => tell_store(rt, window, c, Pointer::H2bWrite, 254),
-        0xFE => tell_store(rt, window, c, Pointer::H2bWrite, 256),
-        0xFF => tell_store(rt, window, c, Pointer::B2hWrite, 128),
-        _ => tell_flags(rt, window::interface_of(window, c)),
+// The flags that stand in the words.
+#[derive(Drop)]
+struct Flagged(Interface);
+
+impl fmt::Display for Flagged {
+    fn fmt<W: fmt::Write>(&self, f: &mut fmt::Formatter<W>) -> fmt::Result {
+        let seen = self.0;
+        for (is_set, name) in [
+            (seen.flags.controller_up, " B_UP"),
+            (seen.flags.controller_reset, " B_RST"),
+            (seen.controller_ready, " B_RDY"),
+            (seen.flags.host_up, " H_UP"),
+            (seen.flags.host_reset, " H_RST"),
+            (seen.host_ready, " H_RDY"),
+        ] {
+            if is_set {
+                f.write_str(name)?;
+            }
+        }
+        Ok(())
     }
 }
 
-fn tell_flags(rt: HostRuntime, seen: Interface) {
-    let flags = seen.flags;
-    text::put_if(rt, flags.controller_up, b" B_UP");
-    text::put_if(rt, flags.controller_reset, b" B_RST");
-    text::put_if(rt, seen.controller_ready, b" B_RDY");
-    text::put_if(rt, flags.host_up, b" H_UP");
-    text::put_if(rt, flags.host_reset, b" H_RST");
-    text::put_if(rt, seen.host_ready, b" H_RDY");
+// A window in which only this byte of the words is not 0.
+fn with_bits(at: u8, bits: u8) -> Result<Flagged, Refusal> {
+    let window = Window::with(at as usize, &[bits])?;
+    Ok(Flagged(window::interface_of(&window.bytes, window.c)))
 }
 
-fn tell_pointers(rt: HostRuntime, seen: Interface) {
-    text::put_number(rt, b"B2H read ", seen.b2h.read);
-    text::put_number(rt, b" write ", seen.b2h.write);
-    text::put_number(rt, b", H2B read ", seen.h2b.read);
-    text::put_number(rt, b" write ", seen.h2b.write);
+// The pointers that stand in the words.
+#[derive(Drop)]
+struct Pointed(Interface);
+
+impl fmt::Display for Pointed {
+    fn fmt<W: fmt::Write>(&self, f: &mut fmt::Formatter<W>) -> fmt::Result {
+        let Interface { b2h, h2b, .. } = self.0;
+        write!(f, "B2H read {} write {}", b2h.read, b2h.write)?;
+        write!(f, ", H2B read {} write {}", h2b.read, h2b.write)
+    }
 }
 
-// A pointer stored with both bits set, and the two structures after it.
-fn tell_store(
-    rt: HostRuntime,
-    window: &mut [u8],
-    c: Configuration,
-    which: Pointer,
-    pointer: usize,
-) {
+// A window in which the words are the bytes 1 to 16.
+fn with_bytes() -> Result<Pointed, Refusal> {
+    let bytes = [1, 2, 3, 4, 5, 6, 7, 8, 9, 10, 11, 12, 13, 14, 15, 16];
+    let window = Window::with(64, &bytes)?;
+    Ok(Pointed(window::interface_of(&window.bytes, window.c)))
+}
+
+// What a store answered, and the window behind it.
+#[derive(Drop)]
+struct Tried {
+    answer: Result<(), Refusal>,
+    bytes: [u8; 512],
+}
+
+impl fmt::Display for Tried {
+    fn fmt<W: fmt::Write>(&self, f: &mut fmt::Formatter<W>) -> fmt::Result {
+        match self.answer {
+            Ok(()) => write!(f, "stored")?,
+            Err(why) => Refused(why).fmt(f)?,
+        }
+        write!(f, ", then{}", Bytes(&self.bytes[64..80]))
+    }
+}
+
+// A pointer stored with both bits set.
+fn store(which: Pointer, pointer: usize) -> Result<Tried, Refusal> {
+    let Window { mut bytes, c } = Window::with(40, &[])?;
     let word = Word {
         pointer,
         bit1: true,
         bit0: true,
     };
-    let number = window::store(window, c, which, word);
-    if number == 0 {
-        text::put(rt, b"stored");
-    } else {
-        text::put_number(rt, b"refused ", number as usize);
-    }
-    text::put(rt, b", then");
-    text::show(rt, window, 64, 80);
+    let answer = window::store(&mut bytes, c, which, word);
+    Ok(Tried { answer, bytes })
 }

@@ -1,6 +1,6 @@
 // What calls answer, in words.
 ghost use Rattle.std.specs.Prelude.{◌++◌, Some, codes, decimal};
-ghost use Rattle.told.specs.Answer.{answer_text, notify_text};
+ghost use Rattle.told.specs.Answer.{answer_text, notify_text, refused_text};
 
 use mctp::Refusal;
 use std::fmt;
@@ -15,8 +15,20 @@ impl<T: fmt::Display> fmt::Display for Answer<T> {
     fn fmt<W: fmt::Write>(&self, f: &mut fmt::Formatter<W>) -> fmt::Result {
         match &self.0 {
             Ok(given) => given.fmt(f),
-            Err(why) => write!(f, "refused {}", why.number()),
+            Err(why) => Refused(*why).fmt(f),
         }
+    }
+}
+
+// A refusal, by its number.
+#[derive(Drop)]
+pub struct Refused(pub Refusal);
+
+impl fmt::Display for Refused {
+    ghost output = { λ refused. Some (refused_text refused.0) };
+
+    fn fmt<W: fmt::Write>(&self, f: &mut fmt::Formatter<W>) -> fmt::Result {
+        write!(f, "refused {}", self.0.number())
     }
 }
 

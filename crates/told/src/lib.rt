@@ -7,6 +7,6 @@ mod failure;
 mod output;
 mod page;
 
-pub use answer::{Answer, Good, PccPacket, SmbusPacket};
+pub use answer::{Answer, Good, PccPacket, Refused, SmbusPacket};
 pub use failure::{fail, without_number};
 pub use page::Page;

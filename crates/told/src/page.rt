@@ -12,6 +12,8 @@ pub struct Page {
     output: Output,
     // what ends the line before
     end: &'static str,
+    // an empty line before a heading, but for the first
+    gap: &'static str,
     // a heading that waits for its first line
     heading: Option<&'static str>,
 }
@@ -25,11 +27,12 @@ impl Page {
         Page {
             output: Output { rt, name },
             end: "",
+            gap: "",
             heading: None,
         }
     }
 
-    // A heading for the lines that follow, with an empty line before it.
+    // A heading for the lines that follow, with an empty line before it, but for the first.
     pub fn section(&mut self, heading: &'static str)
         ensures { self.new.heading ≡ Some heading.entry }
     {
@@ -44,16 +47,20 @@ impl Page {
         let end = self.end;
         let rt = self.output.rt;
         let begun = match self.heading.take() {
-            Some(heading) => print!(rt; "{end}{end}{heading}\n{words}"),
+            Some(heading) => print!(rt; "{end}{}{heading}\n{words}", self.gap),
             None => print!(rt; "{end}{words}"),
         };
         self.output.note(begun);
         self.end = "\n";
+        self.gap = "\n";
         let _ = self.output.write(answer);
     }
 
-    // Ends the last line.
-    pub fn finish(self) {
+    // Ends the last line, so that what is told so far is written whole.
+    pub fn end_line(&mut self)
+        ensures { is_begun self.new.end.now ≡ false }
+    {
         self.output.note(self.output.rt.print(self.end));
+        self.end = "";
     }
 }

@@ -1,0 +1,43 @@
+-- The contract leaves no choice: a text has one reason.
+-- Assumes nothing.
+use Rattle.std.proofs.Common.{rules, arith, ◌≡◌, ℕ, ◌+◌, ◌<◌, length, List, [], ◌++◌, take, drop, ⊎_elim, Bor}
+use Rattle.std.proofs.lemmas.List.{length-append}
+use Rattle.std.proofs.Math.Seq.{drop-append_seam, take-append_seam}
+use contract.Lifetimes.{Lfts}
+use Rattle.told.specs.Reason.{IsReason, number_mark}
+use Rattle.told.proofs.failure.without_number.Reads as cut
+
+-- a reason is a front of the text
+front : (text a : List ℕ) → IsReason text a → (rest : List ℕ) × (text ≡ a ++ rest)
+front text a r = ⊎_elim (λ e. ([], search rules)) (λ p. (number_mark ++ p.0, p.1)) r.1
+
+long : (text b rest : List ℕ) → text ≡ b ++ rest → length text ≡ length b + length rest
+long text b rest e = rw e (length-append b rest)
+
+behind : (text a rest : List ℕ) → text ≡ a ++ rest → drop (length a) text ≡ rest
+behind text a rest e = rw e (drop-append_seam a rest)
+
+before : (text a rest : List ℕ) → text ≡ a ++ rest → take (length a) text ≡ a
+before text a rest e = rw e (take-append_seam a rest)
+
+-- a shorter one would end at a mark, which the longer one has within
+shorter : (text a b : List ℕ) → IsReason text a → IsReason text b → length a < length b → ⊥
+shorter text a b r s h = ⊎_elim
+    (λ (e : a ≡ text). omega (arith, long text b (front text b s).0 (front text b s).1, rw e at h))
+    (λ p. s.0 (length a) h p.0 (behind text a (number_mark ++ p.0) p.1))
+    r.1
+
+same_length : (text a b : List ℕ) → IsReason text a → IsReason text b → length a ≡ length b
+same_length text a b r s = omega (arith, shorter text a b r s, shorter text b a s r)
+
+pub reason_determined : (text a b : List ℕ) → IsReason text a → IsReason text b → a ≡ b
+reason_determined text a b r s = search (
+  rules,
+  before text a (front text a r).0 (front text a r).1,
+  before text b (front text b s).0 (front text b s).1,
+  same_length text a b r s,
+)
+
+pub without_number_determined : (κs : Lfts 1) (a : _) (r q : Bor (List ℕ)) (e f : _) → cut.Post κs a r e
+    → cut.Post κs a q f → r.now ≡ q.now
+without_number_determined κs a r q e f p o = reason_determined _ _ _ p o
