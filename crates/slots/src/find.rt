@@ -9,10 +9,10 @@ use mctp::Key;
 pub fn state_at(receiver: Receiver, slot: usize) -> SlotState
     ensures { result ≡ slot_at receiver.slots slot }
 {
-    match receiver.slots.get(slot) {
-        Some(found) => found.state,
-        None => SlotState::Free,
-    }
+    receiver
+        .slots
+        .get(slot)
+        .map_or(SlotState::Free, |found| found.state)
 }
 
 // The slot that gathers for this key; what comes behind it isn't looked at.
