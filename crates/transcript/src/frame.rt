@@ -14,6 +14,7 @@ pub struct Framed {
 }
 
 // The frame's line put to place `at` of the output. Where it does not fit nothing is written, and the place stays.
+#[tactic(auto, unfolding(crate::specs::Frame::after_frame))]
 pub fn frame_line(
     before: State,
     memory: &mut [u8],

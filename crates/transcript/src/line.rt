@@ -1,5 +1,5 @@
 // What an arrival's answer is as a line.
-ghost use Rattle.std.specs.Prelude.{◌≡◌, Err};
+ghost use Rattle.std.specs.Prelude.{◌≡◌, Ok, Err};
 ghost use Rattle.rack.specs.Answers.{tells};
 ghost use Rattle.rack.specs.Arrivals.{without};
 ghost use Rattle.receiver.specs.Step.{says};
@@ -23,19 +23,25 @@ fn line_of_answer(answer: Result<Kept, Refusal>) -> Line
     ensures { result ≡ line_of_said (says answer) }
 {
     match answer {
-        Ok(Kept::Held { slot, bytes, again }) => Line::Held { slot, bytes, again },
-        Ok(
-            Kept::Done {
-                slot,
-                length,
-                again,
-            },
-        ) => Line::Done {
+        Ok(kept) => line_of_kept(kept),
+        Err(refusal) => refused(refusal),
+    }
+}
+
+fn line_of_kept(kept: Kept) -> Line
+    ensures { result ≡ line_of_said (says (Ok kept)) }
+{
+    match kept {
+        Kept::Held { slot, bytes, again } => Line::Held { slot, bytes, again },
+        Kept::Done {
+            slot,
+            length,
+            again,
+        } => Line::Done {
             slot,
             length,
             again,
         },
-        Err(refusal) => refused(refusal),
     }
 }
 

@@ -24,6 +24,7 @@ pub struct State {
     pub packets: u64,
 }
 
+#[tactic(auto, unfolding(slots::specs::Changes::set_up_of))]
 pub fn set_up() -> State
     ensures { result ≡ start }
 {

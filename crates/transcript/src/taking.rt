@@ -6,6 +6,7 @@ ghost use Rattle.transcript.specs.Taking.{chunk_frames, chunk_run};
 
 use crate::frame;
 use crate::state::State;
+use records::Record;
 
 // The state after a chunk, how many bytes of the input it took, and how many of the output it wrote.
 #[derive(Clone, Copy)]
@@ -33,8 +34,7 @@ pub fn chunk(before: State, memory: &mut [u8], input: &[u8], output: &mut [u8]) 
     let mut read = 0;
     let mut written = 0;
     while records::LINE_ROOM <= output.len() - written {
-        let next = records::record_at(input, read);
-        let records::Record::Whole { start, size } = next else {
+        let Record::Whole { start, size } = records::record_at(input, read) else {
             break;
         };
         let end = start + size;

@@ -1,12 +1,7 @@
 -- `transcript::taking::chunk` meets its contract. The loop's invariant: the frames taken so far are its first, and made
 -- what is there. The measure is what is left of the input. Assumes nothing.
-use mathlib.Core.Path.{refl, ◌≡◌, sym, ◌∙◌}
-use Prim.Native.Nat.{◌≤◌, ◌-◌}
+use mathlib.Core.Path.{refl, sym, ◌∙◌}
 use native.Mathlib.Omega.{arith}
-use lib.ListN.{length}
-use Rattle.records.specs.declared.record.Record.TheVariants.{Whole}
-use Rattle.records.specs.Record.{record_at}
-use Rattle.records.proofs.Records.{Stands}
 use Rattle.records.proofs.Walks.{rest_short}
 use Rattle.transcript.proofs.Places.{no_whole}
 use Rattle.transcript.proofs.Frames.{frames_none, frames_full}
@@ -15,49 +10,23 @@ use Rattle.transcript.proofs.taking.chunk.Goals as goal
 
 pub slice_bounds-frame_line-start : goal.slice_bounds-frame_line-start
 slice_bounds-frame_line-start c =
-    let whole : record_at c.args.input.now c.loop-output.read
-    ≡ Whole c.in-Whole.start c.in-Whole.size =
-    sym c.record_at-next.ensures ∙ c.in-Whole.is in
-    let room : 86 ≤ length c.loop-output.output - c.loop-output.written =
-    omega arith in
-    let standing : Stands c.args.input.now c.loop-output.read c.in-Whole.start
-    c.in-Whole.size =
-    stands c.loop-output.invariant.0 whole room in
+    let standing = stands c.loop-output.invariant.0 (sym c.record_at.ensures ∙ c.in-Whole.is) (omega arith) in
     omega (arith, standing.ends)
 
 pub slice_bounds-frame_line-end : goal.slice_bounds-frame_line-end
 slice_bounds-frame_line-end c =
-    let whole : record_at c.args.input.now c.loop-output.read
-    ≡ Whole c.in-Whole.start c.in-Whole.size =
-    sym c.record_at-next.ensures ∙ c.in-Whole.is in
-    let room : 86 ≤ length c.loop-output.output - c.loop-output.written =
-    omega arith in
-    let standing : Stands c.args.input.now c.loop-output.read c.in-Whole.start
-    c.in-Whole.size =
-    stands c.loop-output.invariant.0 whole room in
+    let standing = stands c.loop-output.invariant.0 (sym c.record_at.ensures ∙ c.in-Whole.is) (omega arith) in
     omega (arith, standing.ends)
 
 pub loop-output-smaller : goal.loop-output-smaller
 loop-output-smaller c =
-    let whole : record_at c.args.input.now c.loop-output.read
-    ≡ Whole c.in-Whole.start c.in-Whole.size =
-    sym c.record_at-next.ensures ∙ c.in-Whole.is in
-    let room : 86 ≤ length c.loop-output.output - c.loop-output.written =
-    omega arith in
-    let standing : Stands c.args.input.now c.loop-output.read c.in-Whole.start
-    c.in-Whole.size =
-    stands c.loop-output.invariant.0 whole room in
-    let one = standing in
-    omega (arith, one.inside, one.follows)
+    let standing = stands c.loop-output.invariant.0 (sym c.record_at.ensures ∙ c.in-Whole.is) (omega arith) in
+    omega (arith, standing.inside, standing.follows)
 
 pub loop-output-preserved : goal.loop-output-preserved
 loop-output-preserved c =
-    let whole : record_at c.args.input.now c.loop-output.read
-    ≡ Whole c.in-Whole.start c.in-Whole.size =
-    sym c.record_at-next.ensures ∙ c.in-Whole.is in
-    let room : 86 ≤ length c.loop-output.output - c.loop-output.written =
-    omega arith in
-    let on = along_more c.loop-output.invariant.0 whole room (
+    let whole = sym c.record_at.ensures ∙ c.in-Whole.is in
+    let on = along_more c.loop-output.invariant.0 whole (omega arith) (
       c.frame_line-framed.ensures.state,
       (
         c.frame_line-framed.ensures.memory,
@@ -81,7 +50,7 @@ returns-after-loop-output c =
 pub returns-in_default : goal.returns-in_default
 returns-in_default c =
     let none = no_whole c.args.input.now c.loop-output.read _ c.in_default.not-Whole
-    (sym c.record_at-next.ensures) in
+    (sym c.record_at.ensures) in
     let the_parts = along_done c.loop-output.invariant.0
     (rw none (frames_none c.loop-output.state c.loop-output.memory _)) in
     record {
@@ -98,12 +67,5 @@ loop-output-init c = (along_start _ _ _ _, refl, refl)
 
 pub overflow_add-end : goal.overflow_add-end
 overflow_add-end c =
-    let whole : record_at c.args.input.now c.loop-output.read
-    ≡ Whole c.in-Whole.start c.in-Whole.size =
-    sym c.record_at-next.ensures ∙ c.in-Whole.is in
-    let room : 86 ≤ length c.loop-output.output - c.loop-output.written =
-    omega arith in
-    let standing : Stands c.args.input.now c.loop-output.read c.in-Whole.start
-    c.in-Whole.size =
-    stands c.loop-output.invariant.0 whole room in
+    let standing = stands c.loop-output.invariant.0 (sym c.record_at.ensures ∙ c.in-Whole.is) (omega arith) in
     omega (arith, standing.ends)
