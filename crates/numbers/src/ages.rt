@@ -1,5 +1,5 @@
 // How long a slot waits: limits at set-up, and a start with one packet more.
-use crate::answers::{Kept, answered, changed};
+use crate::answers::{Message, answered, done};
 use crate::packets::{MEMORY, fresh, give};
 use mctp::Eid;
 use told::{Answer, Page};
@@ -17,7 +17,7 @@ pub fn tell(page: &mut Page) {
         ("limit 60000: ", 60000),
         ("limit 60001: ", 60001),
     ] {
-        page.line(words, changed(slots::set_up(Eid(9), limit)));
+        page.line(words, done(slots::set_up(Eid(9), limit).outcome));
     }
     for (words, start, byte, time) in [
         (
@@ -74,7 +74,7 @@ pub fn tell(page: &mut Page) {
 }
 
 // The answer to the second packet.
-fn behind(start: u32, byte: u8, time: u32) -> Answer<Kept> {
+fn behind(start: u32, byte: u8, time: u32) -> Answer<Message> {
     let mut memory = MEMORY;
     let begun = give::<5>(fresh(), &mut memory, START, start);
     answered(give::<5>(begun.receiver, &mut memory, byte, time).answer)

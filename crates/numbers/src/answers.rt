@@ -2,29 +2,18 @@
 ghost use Rattle.std.specs.Prelude.{◌≤◌, ◌<◌, ◌^◌};
 
 use crate::packets::{Call, MEMORY, after, give};
-use mctp::Outcome;
-use slots::Changed;
+use mctp::Refusal;
+use receiver::Kept;
 use std::fmt;
 use told::{Answer, Good};
 
 // What became of a packet's message.
 #[derive(Drop)]
-pub enum Kept {
-    Held {
-        slot: u8,
-        bytes: usize,
-        again: bool,
-    },
-    Done {
-        slot: u8,
-        length: usize,
-        again: bool,
-    },
-}
+pub struct Message(pub Kept);
 
-impl fmt::Display for Kept {
+impl fmt::Display for Message {
     fn fmt<W: fmt::Write>(&self, f: &mut fmt::Formatter<W>) -> fmt::Result {
-        let again = match *self {
+        let again = match self.0 {
             Kept::Held { slot, bytes, again } => {
                 write!(f, "held slot {slot} bytes {bytes}")?;
                 again
@@ -43,24 +32,12 @@ impl fmt::Display for Kept {
 }
 
 // The answer to a packet.
-pub fn answered(answer: receiver::Answer) -> Answer<Kept> {
-    Answer(match answer {
-        receiver::Answer::Refused { refusal } => Err(refusal),
-        receiver::Answer::Held { slot, bytes, again } => Ok(Kept::Held { slot, bytes, again }),
-        receiver::Answer::Done {
-            slot,
-            length,
-            again,
-        } => Ok(Kept::Done {
-            slot,
-            length,
-            again,
-        }),
-    })
+pub fn answered(answer: Result<Kept, Refusal>) -> Answer<Message> {
+    Answer(answer.map(Message))
 }
 
 // The answer to a packet of N bytes after calls with packets of M.
-pub fn answered_after<const M: usize, const N: usize>(calls: &[Call], byte: u8) -> Answer<Kept>
+pub fn answered_after<const M: usize, const N: usize>(calls: &[Call], byte: u8) -> Answer<Message>
     requires before { (4 ≤ M) × (M < 2 ^ 63) }
     requires last { (4 ≤ N) × (N < 2 ^ 63) }
 {
@@ -70,9 +47,6 @@ pub fn answered_after<const M: usize, const N: usize>(calls: &[Call], byte: u8) 
 }
 
 // What a call that changes the receiver came to.
-pub fn changed(changed: Changed) -> Answer<Good> {
-    Answer(match changed.outcome {
-        Outcome::Good => Ok(Good),
-        Outcome::Refused(why) => Err(why),
-    })
+pub fn done(outcome: Result<(), Refusal>) -> Answer<Good> {
+    Answer(outcome.map(|()| Good))
 }

@@ -1,35 +1,34 @@
 // The sizes of SMBus frames and packets.
 ghost use Rattle.std.specs.Prelude.{◌≤◌, ◌<◌, ◌^◌};
 
-use smbus::{Carried, Written};
+use mctp::Refusal;
+use smbus::Packet;
 use std::fmt;
 use told::{Answer, Page, SmbusPacket};
 
 pub fn tell(page: &mut Page) {
     page.section("SMBus");
-    page.line("smbus frame of 9 bytes: ", read::<9>());
-    page.line("smbus frame of 10 bytes: ", read::<10>());
-    page.line("smbus frame of 73 bytes: ", read::<73>());
-    page.line("smbus frame of 74 bytes: ", read::<74>());
-    page.line("smbus packet of 4 bytes written: ", write::<4>());
-    page.line("smbus packet of 5 bytes written: ", write::<5>());
-    page.line("smbus packet of 68 bytes written: ", write::<68>());
-    page.line("smbus packet of 69 bytes written: ", write::<69>());
+    page.line("smbus frame of 9 bytes: ", Answer(read::<9>()));
+    page.line("smbus frame of 10 bytes: ", Answer(read::<10>()));
+    page.line("smbus frame of 73 bytes: ", Answer(read::<73>()));
+    page.line("smbus frame of 74 bytes: ", Answer(read::<74>()));
+    page.line("smbus packet of 4 bytes written: ", Answer(write::<4>()));
+    page.line("smbus packet of 5 bytes written: ", Answer(write::<5>()));
+    page.line("smbus packet of 68 bytes written: ", Answer(write::<68>()));
+    page.line("smbus packet of 69 bytes written: ", Answer(write::<69>()));
 }
 
 // A frame of N bytes that is right in all but, perhaps, its size: its count counts all but four.
-fn read<const N: usize>() -> Answer<SmbusPacket>
+fn read<const N: usize>() -> Result<SmbusPacket, Refusal>
     requires { (9 ≤ N) × (N ≤ 259) }
 {
     let mut frame = [0u8; N];
     frame[..8].copy_from_slice(b"\x40\x0F\x00\x23\x01\x09\x0A\xC8");
     frame[2] = (N - 4) as u8;
     frame[N - 1] = pec::pec(&frame[..N - 1]);
+    let Packet { source } = smbus::read(&frame, 32)?;
     let size = smbus::part(&frame).len();
-    Answer(match smbus::read(&frame, 32) {
-        Carried::Packet { source } => Ok(SmbusPacket { size, source }),
-        Carried::Refused(why) => Err(why),
-    })
+    Ok(SmbusPacket { size, source })
 }
 
 // The size of the frame that a packet was written as.
@@ -42,11 +41,8 @@ impl fmt::Display for Frame {
     }
 }
 
-fn write<const N: usize>() -> Answer<Frame>
+fn write<const N: usize>() -> Result<Frame, Refusal>
     requires { N < 2 ^ 63 }
 {
-    Answer(match smbus::write(&mut [0; 74], &[0; N], 32, 17) {
-        Written::Frame(size) => Ok(Frame(size)),
-        Written::Refused(why) => Err(why),
-    })
+    smbus::write(&mut [0; 74], &[0; N], 32, 17).map(Frame)
 }

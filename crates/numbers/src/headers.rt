@@ -1,5 +1,5 @@
 // The fields of a packet's header, and the EIDs that an endpoint can have.
-use crate::answers::{Kept, answered, changed};
+use crate::answers::{Message, answered, done};
 use crate::packets::{MEMORY, ORDER, fresh};
 use mctp::{Eid, Header};
 use std::fmt;
@@ -63,11 +63,11 @@ impl fmt::Display for Fields {
 
 // A receiver set up with this EID of its own.
 fn own(eid: u8) -> Answer<Good> {
-    changed(slots::set_up(Eid(eid), 1000))
+    done(slots::set_up(Eid(eid), 1000).outcome)
 }
 
 // A packet from this EID.
-fn from(eid: u8) -> Answer<Kept> {
+fn from(eid: u8) -> Answer<Message> {
     let mut packet = ORDER;
     packet[2] = eid;
     answered(receiver::give(fresh(), &mut MEMORY, &packet, 0).answer)

@@ -1,5 +1,5 @@
 // Keys and slots: five messages that differ in their tags, and four slots.
-use crate::answers::{answered_after, changed};
+use crate::answers::{answered_after, done};
 use crate::packets::Call::{Free, Packet};
 use crate::packets::{Call, fresh};
 use told::Page;
@@ -27,6 +27,6 @@ pub fn tell(page: &mut Page) {
     ] {
         page.line(words, answered_after::<5, 5>(calls, byte));
     }
-    page.line("slot 3 freed: ", changed(slots::free(fresh(), 3)));
-    page.line("slot 4 freed: ", changed(slots::free(fresh(), 4)));
+    page.line("slot 3 freed: ", done(slots::free(fresh(), 3).outcome));
+    page.line("slot 4 freed: ", done(slots::free(fresh(), 4).outcome));
 }

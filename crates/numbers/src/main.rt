@@ -28,5 +28,5 @@ fn main(rt: HostRuntime) {
     ages::tell(&mut page);
     sending::tell(&mut page);
     paths::tell(&mut page);
-    page.finish();
+    page.end_line();
 }

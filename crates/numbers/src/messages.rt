@@ -1,5 +1,5 @@
 // A message of one packet, and one that fills its slot to the last byte.
-use crate::answers::{Kept, answered, answered_after};
+use crate::answers::{Message, answered, answered_after};
 use crate::packets::Call::Packet;
 use crate::packets::{Call, MEMORY, after, give};
 use told::{Answer, Page};
@@ -49,7 +49,7 @@ pub fn tell(page: &mut Page) {
 }
 
 // A packet after 16 bodies and the byte that was too many.
-fn dropped() -> Answer<Kept> {
+fn dropped() -> Answer<Message> {
     let mut memory = MEMORY;
     let full = after::<68>(&BODIES, &mut memory);
     let over = give::<5>(full, &mut memory, 0x48, 0);

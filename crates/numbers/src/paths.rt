@@ -1,21 +1,30 @@
 // One packet on the three paths, each to a fresh receiver.
-use crate::answers::{Kept, answered};
+use crate::answers::Message;
 use crate::packets::{MEMORY, ORDER, fresh};
+use mctp::Refusal;
 use mmbi::{Flags, Pointers};
-use rack::{Arrived, Received};
+use rack::Received;
+use ring::Offered;
 use std::fmt;
 use told::{Answer, Page};
 
 pub fn tell(page: &mut Page) {
     page.section("The packet 01 09 0A C8 00 on the three paths, each to a fresh receiver at EID 9");
-    page.line("path smbus: ", by_smbus());
-    page.line("path pcc: ", by_pcc());
-    page.line("path ring: ", by_ring());
+    page.line("path smbus: ", Answer(by_smbus()));
+    page.line("path pcc: ", Answer(by_pcc()));
+    page.line("path ring: ", Answer(by_ring()));
 }
 
-// What a carrier brought, if a packet.
+// What a carrier brought: a packet, and the receiver's answer to it; or none.
 #[derive(Drop)]
-pub struct Brought(Option<Answer<Kept>>);
+pub struct Brought(Option<Answer<Message>>);
+
+impl Brought {
+    pub fn by(received: Received) -> Brought {
+        let answer = received.arrived.ok().map(|brought| brought.answer);
+        Brought(answer.map(|answer| Answer(answer.map(Message))))
+    }
+}
 
 impl fmt::Display for Brought {
     fn fmt<W: fmt::Write>(&self, f: &mut fmt::Formatter<W>) -> fmt::Result {
@@ -26,37 +35,28 @@ impl fmt::Display for Brought {
     }
 }
 
-pub fn arrived(received: Received) -> Brought {
-    Brought(match received.arrived {
-        Arrived::Given { beside: _, answer } => Some(answered(answer)),
-        Arrived::Nothing { why: _ } => None,
-    })
-}
-
-fn by_smbus() -> Brought {
+fn by_smbus() -> Result<Brought, Refusal> {
     let mut frame = [0; 10];
-    smbus::write(&mut frame, &ORDER, 32, 17);
-    arrived(rack::from_smbus(&frame, 32, fresh(), &mut MEMORY, 0))
+    smbus::write(&mut frame, &ORDER, 32, 17)?;
+    let received = rack::from_smbus(&frame, 32, fresh(), &mut MEMORY, 0);
+    Ok(Brought::by(received))
 }
 
-fn by_pcc() -> Brought {
+fn by_pcc() -> Result<Brought, Refusal> {
     let mut region = [0; 84];
-    pcc::write(&mut region, 3, true, &ORDER);
-    arrived(rack::from_pcc(&region, 3, fresh(), &mut MEMORY, 0))
+    pcc::write(&mut region, 3, true, &ORDER)?;
+    let received = rack::from_pcc(&region, 3, fresh(), &mut MEMORY, 0);
+    Ok(Brought::by(received))
 }
 
-fn by_ring() -> Brought {
+fn by_ring() -> Result<Brought, Refusal> {
     let mut bytes = [0; 128];
-    let empty = Pointers { read: 0, write: 0 };
-    ring::write(&mut bytes, 128, Flags::NORMAL_RUNTIME, empty, &ORDER);
-    arrived(rack::from_ring(
-        &bytes,
-        128,
-        Flags::NORMAL_RUNTIME,
-        Pointers { read: 0, write: 12 },
-        &mut [0; 68],
-        fresh(),
-        &mut MEMORY,
-        0,
-    ))
+    let mut offered = Offered {
+        configured: 128,
+        flags: Flags::NORMAL_RUNTIME,
+        pointers: Pointers { read: 0, write: 0 },
+    };
+    offered.pointers.write = ring::write(&mut bytes, offered, &ORDER)?;
+    let received = rack::from_ring(&bytes, offered, &mut [0; 68], fresh(), &mut MEMORY, 0);
+    Ok(Brought::by(received))
 }

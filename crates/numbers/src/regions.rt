@@ -1,6 +1,7 @@
 // The length word of a PCC region.
 use crate::packets::ORDER;
-use pcc::Carried;
+use mctp::Refusal;
+use pcc::Packet;
 use told::{Answer, Page, PccPacket};
 
 pub fn tell(page: &mut Page) {
@@ -11,17 +12,15 @@ pub fn tell(page: &mut Page) {
         ("pcc length 72: ", 72),
         ("pcc length 73: ", 73),
     ] {
-        page.line(words, read(length));
+        page.line(words, Answer(read(length)));
     }
 }
 
 // A region that is right in all but, perhaps, its length word.
-fn read(length: u32) -> Answer<PccPacket> {
+fn read(length: u32) -> Result<PccPacket, Refusal> {
     let mut region = [0; 84];
-    pcc::write(&mut region, 3, false, &ORDER);
+    pcc::write(&mut region, 3, false, &ORDER)?;
     region[8..12].copy_from_slice(&length.to_le_bytes());
-    Answer(match pcc::read(&region, 3) {
-        Carried::Packet { size, notify } => Ok(PccPacket { size, notify }),
-        Carried::Refused(why) => Err(why),
-    })
+    let Packet { size, notify } = pcc::read(&region, 3)?;
+    Ok(PccPacket { size, notify })
 }

@@ -4,11 +4,10 @@ ghost use Rattle.std.specs.Prelude.{◌<◌, ◌^◌};
 
 use crate::headers::Fields;
 use crate::packets::{MEMORY, Memory, fresh};
-use crate::paths::{Brought, arrived};
-use mctp::{Eid, Key};
-use sender::{Counted, Cut, Heading};
+use crate::paths::Brought;
+use mctp::{Eid, Key, Refusal};
+use sender::Heading;
 use slots::Receiver;
-use smbus::Written;
 use std::fmt;
 use told::{Answer, Page};
 
@@ -16,19 +15,22 @@ const MESSAGE: [u8; 130] = [0; 130];
 
 pub fn tell(page: &mut Page) {
     page.section("Messages sent from EID 10 to EID 9, tag owner, tag 5, first sequence 3");
-    page.line("message of 0 bytes: ", count::<0>());
-    page.line("message of 1 byte: ", count::<1>());
-    page.line("message of 64 bytes: ", count::<64>());
-    page.line("message of 65 bytes: ", count::<65>());
-    page.line("message of 1024 bytes: ", count::<1024>());
-    page.line("message of 1025 bytes: ", count::<1025>());
-    page.line("message of 130 bytes: ", count::<130>());
-    page.line("its packet 0: ", cut::<68>(9, 0));
-    page.line("its packet 1: ", cut::<68>(9, 1));
-    page.line("its packet 2: ", cut::<68>(9, 2));
-    page.line("its packet 3: ", cut::<68>(9, 3));
-    page.line("its packet 0 in an output of 67 bytes: ", cut::<67>(9, 0));
-    page.line("its packet 0 to EID 7 instead: ", cut::<68>(7, 0));
+    page.line("message of 0 bytes: ", Answer(count::<0>()));
+    page.line("message of 1 byte: ", Answer(count::<1>()));
+    page.line("message of 64 bytes: ", Answer(count::<64>()));
+    page.line("message of 65 bytes: ", Answer(count::<65>()));
+    page.line("message of 1024 bytes: ", Answer(count::<1024>()));
+    page.line("message of 1025 bytes: ", Answer(count::<1025>()));
+    page.line("message of 130 bytes: ", Answer(count::<130>()));
+    page.line("its packet 0: ", Answer(cut::<68>(9, 0)));
+    page.line("its packet 1: ", Answer(cut::<68>(9, 1)));
+    page.line("its packet 2: ", Answer(cut::<68>(9, 2)));
+    page.line("its packet 3: ", Answer(cut::<68>(9, 3)));
+    page.line(
+        "its packet 0 in an output of 67 bytes: ",
+        Answer(cut::<67>(9, 0)),
+    );
+    page.line("its packet 0 to EID 7 instead: ", Answer(cut::<68>(7, 0)));
     page.line(
         "its frames, one by one to a fresh receiver at EID 9: ",
         sent(),
@@ -46,13 +48,10 @@ impl fmt::Display for Packets {
 }
 
 // The number of packets of a message of N bytes.
-fn count<const N: usize>() -> Answer<Packets>
+fn count<const N: usize>() -> Result<Packets, Refusal>
     requires { N < 2 ^ 63 }
 {
-    Answer(match sender::count(&[0; N]) {
-        Counted::Packets(packets) => Ok(Packets(packets)),
-        Counted::Refused(why) => Err(why),
-    })
+    sender::count(&[0; N]).map(Packets)
 }
 
 fn heading(destination: u8) -> Heading {
@@ -86,23 +85,16 @@ impl fmt::Display for Packet {
 }
 
 // Packet k of the 130 bytes, in an output of N bytes.
-fn cut<const N: usize>(destination: u8, k: usize) -> Answer<Packet>
+fn cut<const N: usize>(destination: u8, k: usize) -> Result<Packet, Refusal>
     requires { N < 2 ^ 63 }
 {
     let mut out = [0; N];
-    Answer(
-        match sender::to_output(&mut out, &MESSAGE, heading(destination), k) {
-            Cut::Packet(size) => {
-                let packet = &out[..size.min(N)];
-                Ok(Packet {
-                    size,
-                    body: packet.iter().skip(4).count().min(64),
-                    fields: Fields(mctp::header_of(packet)),
-                })
-            }
-            Cut::Refused(why) => Err(why),
-        },
-    )
+    let size = sender::to_output(&mut out, &MESSAGE, heading(destination), k)?;
+    Ok(Packet {
+        size,
+        body: size.saturating_sub(4),
+        fields: Fields(mctp::header_of(&out[..size.min(N)])),
+    })
 }
 
 // The frames of packets 0 to 2, given one after another to a fresh receiver.
@@ -129,10 +121,10 @@ impl fmt::Display for Frames {
 fn send(before: Receiver, memory: &mut Memory, k: usize) -> (Answer<Brought>, Receiver) {
     let mut frame = [0; 73];
     match sender::to_smbus(&mut frame, &MESSAGE, heading(9), k, 32, 17) {
-        Written::Frame(size) => {
+        Ok(size) => {
             let received = rack::from_smbus(&frame[..size.min(73)], 32, before, memory, 0);
-            (Answer(Ok(arrived(received))), received.receiver)
+            (Answer(Ok(Brought::by(received))), received.receiver)
         }
-        Written::Refused(why) => (Answer(Err(why)), before),
+        Err(why) => (Answer(Err(why)), before),
     }
 }
