@@ -157,34 +157,36 @@ count_is κs a r e p = (p.0, p.1)
 
 pub to_output_is : (κs : Lfts 2) (a r e : _) → to-output.Post κs a r e
     → (sender-says.number_cut r
-    ≡ sent.output_refusal 64 a.1.1.0 a.1.0.now a.1.1.1.0 (length a.0.now))
-    × (sender-says.size_cut r ≡ sent.output_size 64 a.1.1.0 a.1.0.now a.1.1.1.0 (length a.0.now))
-    × (e.0.now ≡ sent.output_written 64 a.1.1.0 a.1.0.now a.1.1.1.0 a.0.now)
+    ≡ sent.output_refusal 64 a.1.0.heading a.1.0.bytes.now a.1.1.0 (length a.0.now))
+    × (sender-says.size_cut r ≡ sent.output_size 64 a.1.0.heading a.1.0.bytes.now a.1.1.0 (length a.0.now))
+    × (e.0.now ≡ sent.output_written 64 a.1.0.heading a.1.0.bytes.now a.1.1.0 a.0.now)
 to_output_is κs a r e p = (p.0, p.1.0, p.1.1)
 
 pub to_smbus_is : (κs : Lfts 2) (a r e : _) → to-smbus.Post κs a r e
-    → let destination = a.1.1.1.1.0 in
-    let source = a.1.1.1.1.1.0 in
+    → let message = a.1.0.bytes.now in
+    let heading = a.1.0.heading in
+    let k = a.1.1.0 in
+    let destination = a.1.1.1.0 in
+    let source = a.1.1.1.1.0 in
     (smbus-says.number_written r
-    ≡ sent.smbus_refusal 64 a.1.1.0 a.1.0.now a.1.1.1.0 (length a.0.now) destination source)
-    × (smbus-says.size_written r
-    ≡ sent.smbus_size 64 a.1.1.0 a.1.0.now a.1.1.1.0 (length a.0.now) destination source)
-    × (e.0.now ≡ sent.smbus_written 64 a.1.1.0 a.1.0.now a.1.1.1.0 a.0.now destination source)
+    ≡ sent.smbus_refusal 64 heading message k (length a.0.now) destination source)
+    × (smbus-says.size_written r ≡ sent.smbus_size 64 heading message k (length a.0.now) destination source)
+    × (e.0.now ≡ sent.smbus_written 64 heading message k a.0.now destination source)
 to_smbus_is κs a r e p = (p.0, p.1.0, p.1.1)
 
 pub to_pcc_is : (κs : Lfts 2) (a r e : _) → to-pcc.Post κs a r e
-    → let message = a.1.1.1.0.now in
-    let heading = a.1.1.1.1.0 in
-    let k = a.1.1.1.1.1.0 in
+    → let message = a.1.1.1.0.bytes.now in
+    let heading = a.1.1.1.0.heading in
+    let k = a.1.1.1.1.0 in
     (number_written r ≡ sent.pcc_refusal 64 heading message k (length a.0.now) a.1.0)
     × (e.0.now ≡ sent.pcc_written 64 heading message k a.0.now a.1.0 a.1.1.0)
 to_pcc_is κs a r e p = (p.0, p.1)
 
 pub to_ring_is : (κs : Lfts 2) (a r e : _) → to-ring.Post κs a r e
     → let o = a.1.0 in
-    let message = a.1.1.0.now in
-    let heading = a.1.1.1.0 in
-    let k = a.1.1.1.1.0 in
+    let message = a.1.1.0.bytes.now in
+    let heading = a.1.1.0.heading in
+    let k = a.1.1.1.0 in
     (entered_in r
     ≡ sent.ring_entered 64 heading message k (length a.0.now) o.configured o.flags o.pointers)
     × (e.0.now ≡ sent.ring_written 64 heading message k a.0.now o.configured o.flags o.pointers)

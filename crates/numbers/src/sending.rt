@@ -6,7 +6,7 @@ use crate::headers::Fields;
 use crate::packets::{MEMORY, Memory, fresh};
 use crate::paths::Brought;
 use mctp::{Eid, Key, Refusal};
-use sender::Heading;
+use sender::{Heading, Message};
 use slots::Receiver;
 use std::fmt;
 use told::{Answer, Page};
@@ -54,15 +54,17 @@ fn count<const N: usize>() -> Result<Packets, Refusal>
     sender::count(&[0; N]).map(Packets)
 }
 
-fn heading(destination: u8) -> Heading {
-    Heading {
-        key: Key {
-            destination: Eid(destination),
-            source: Eid(10),
-            owner: true,
-            tag: 5,
-        },
-        first: 3,
+// The 130 bytes to this EID.
+fn message(destination: u8) -> Message<'static> {
+    let key = Key {
+        destination: Eid(destination),
+        source: Eid(10),
+        owner: true,
+        tag: 5,
+    };
+    Message {
+        bytes: &MESSAGE,
+        heading: Heading { key, first: 3 },
     }
 }
 
@@ -89,7 +91,7 @@ fn cut<const N: usize>(destination: u8, k: usize) -> Result<Packet, Refusal>
     requires { N < 2 ^ 63 }
 {
     let mut out = [0; N];
-    let size = sender::to_output(&mut out, &MESSAGE, heading(destination), k)?;
+    let size = sender::to_output(&mut out, message(destination), k)?;
     Ok(Packet {
         size,
         body: size.saturating_sub(4),
@@ -120,7 +122,7 @@ impl fmt::Display for Frames {
 // Packet k sent from address 17 to address 32, and received there.
 fn send(before: Receiver, memory: &mut Memory, k: usize) -> (Answer<Brought>, Receiver) {
     let mut frame = [0; 73];
-    match sender::to_smbus(&mut frame, &MESSAGE, heading(9), k, 32, 17) {
+    match sender::to_smbus(&mut frame, message(9), k, 32, 17) {
         Ok(size) => {
             let received = rack::from_smbus(&frame[..size.min(73)], 32, before, memory, 0);
             (Answer(Ok(Brought::by(received))), received.receiver)

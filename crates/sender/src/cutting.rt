@@ -4,7 +4,7 @@ ghost use Rattle.mctp.specs.Refusals.{outcome_number};
 ghost use Rattle.sender.specs.Cutting.{message_right, packet_header, packet_at, count_refusal, count_of, cut_refusal};
 ghost use Rattle.sender.specs.Answers.{number_counted, packets_counted};
 
-use crate::heading::{Heading, heading_right};
+use crate::heading::{Heading, Message, heading_right};
 use mctp::{Header, LARGEST_BODY, Refusal};
 
 // How many packets there are of a message.
@@ -44,16 +44,17 @@ pub struct Packet<'a> {
 
 // Packet k of a message: all that is refused before it goes anywhere is refused here.
 #[tactic(auto, using(crate::proofs::Cuts::there), unfolding(crate::specs::Cutting::packet_at))]
-pub fn cut(most: usize, message: &[u8], heading: Heading, k: usize) -> Result<Packet<'_>, Refusal>
-    ensures number { outcome_number result ≡ cut_refusal most heading (length message.now) k }
+pub fn cut(most: usize, message: Message<'_>, k: usize) -> Result<Packet<'_>, Refusal>
+    ensures number { outcome_number result ≡ cut_refusal most message.entry.heading (length message.entry.bytes.now) k }
     ensures header { IfOk result (λ packet. length packet.header ≡ 4) }
-    ensures packet { IfOk result (λ packet. packet.header ++ packet.body.now ≡ packet_at most heading message.now k) }
+    ensures packet { IfOk result (λ packet. packet.header ++ packet.body.now
+        ≡ packet_at most message.entry.heading message.entry.bytes.now k) }
 {
-    let size = message.len();
-    may_cut(most, heading, size, k)?;
+    let size = message.bytes.len();
+    may_cut(most, message.heading, size, k)?;
     Ok(Packet {
-        header: mctp::header_bytes(packet_header(most, heading, size, k)),
-        body: octets::part(message, k * most, most),
+        header: mctp::header_bytes(packet_header(most, message.heading, size, k)),
+        body: octets::part(message.bytes, k * most, most),
     })
 }
 

@@ -12,6 +12,13 @@ pub struct Heading {
     pub first: u8,
 }
 
+// A message that is sent: its bytes, and what its packets' headers are made of.
+#[derive(Clone, Copy)]
+pub struct Message<'a> {
+    pub bytes: &'a [u8],
+    pub heading: Heading,
+}
+
 // Whether every number is in its range.
 pub fn heading_right(heading: Heading) -> bool
     ensures { result ≡ heading_right heading }

@@ -6,5 +6,5 @@ mod heading;
 mod sending;
 
 pub use cutting::count;
-pub use heading::Heading;
+pub use heading::{Heading, Message};
 pub use sending::{to_output, to_pcc, to_ring, to_smbus};

@@ -1,6 +1,6 @@
 // Packet k of a message into an output, and straight onto a carrier: the header is made, the body is a part of the
-// message, and both go where they are to stand. Each call takes what the carrier's writer takes, with the message, its
-// heading and k in the packet's place.
+// message, and both go where they are to stand. Each call takes what the carrier's writer takes, with the message and k
+// in the packet's place.
 ghost use Rattle.std.specs.Prelude.{◌≡◌, length};
 ghost use Rattle.smbus.specs.Answers.{number_written as numberFramed, size_written};
 ghost use Rattle.pcc.specs.Answers.{number_written};
@@ -11,24 +11,19 @@ ghost use Rattle.sender.specs.Sending.{smbus_refusal, smbus_size, smbus_written,
 ghost use Rattle.sender.specs.Sending.{ring_entered, ring_written};
 
 use crate::cutting::cut;
-use crate::heading::Heading;
+use crate::heading::Message;
 use mctp::{LARGEST_BODY, Refusal};
 use ring::Offered;
 
 // Packet k at the output's front, the rest unchanged: its size. Nothing is written where the answer is a refusal.
 #[tactic(auto, unfolding(crate::specs::Sending::output_refusal, crate::specs::Sending::output_size))]
-pub fn to_output(
-    out: &mut [u8],
-    message: &[u8],
-    heading: Heading,
-    k: usize,
-) -> Result<usize, Refusal>
+pub fn to_output(out: &mut [u8], message: Message, k: usize) -> Result<usize, Refusal>
     ensures number { number_cut result
-        ≡ output_refusal 64 heading message.now k (length out.old) }
-    ensures size { size_cut result ≡ output_size 64 heading message.now k (length out.old) }
-    ensures output { out.new ≡ output_written 64 heading message.now k out.old }
+        ≡ output_refusal 64 message.entry.heading message.entry.bytes.now k (length out.old) }
+    ensures size { size_cut result ≡ output_size 64 message.entry.heading message.entry.bytes.now k (length out.old) }
+    ensures output { out.new ≡ output_written 64 message.entry.heading message.entry.bytes.now k out.old }
 {
-    let packet = cut(LARGEST_BODY, message, heading, k)?;
+    let packet = cut(LARGEST_BODY, message, k)?;
     let size = 4 + packet.body.len();
     if out.len() < size {
         return Err(Refusal::Room);
@@ -42,20 +37,19 @@ pub fn to_output(
 #[tactic(auto, unfolding(crate::specs::Sending::smbus_refusal, crate::specs::Sending::smbus_written))]
 pub fn to_smbus(
     out: &mut [u8],
-    message: &[u8],
-    heading: Heading,
+    message: Message,
     k: usize,
     destination: u8,
     source: u8,
 ) -> Result<usize, Refusal>
-    ensures number { numberFramed result ≡ smbus_refusal 64 heading message.now k
+    ensures number { numberFramed result ≡ smbus_refusal 64 message.entry.heading message.entry.bytes.now k
         (length out.old) destination source }
-    ensures size { size_written result ≡ smbus_size 64 heading message.now k
+    ensures size { size_written result ≡ smbus_size 64 message.entry.heading message.entry.bytes.now k
         (length out.old) destination source }
-    ensures output { out.new ≡ smbus_written 64 heading message.now k
+    ensures output { out.new ≡ smbus_written 64 message.entry.heading message.entry.bytes.now k
         out.old destination source }
 {
-    let packet = cut(LARGEST_BODY, message, heading, k)?;
+    let packet = cut(LARGEST_BODY, message, k)?;
     smbus::write_apart(
         LARGEST_BODY,
         out,
@@ -72,16 +66,15 @@ pub fn to_pcc(
     region: &mut [u8],
     id: u32,
     notify: bool,
-    message: &[u8],
-    heading: Heading,
+    message: Message,
     k: usize,
 ) -> Result<(), Refusal>
     ensures number { number_written result
-        ≡ pcc_refusal 64 heading message.now k (length region.old) id }
+        ≡ pcc_refusal 64 message.entry.heading message.entry.bytes.now k (length region.old) id }
     ensures region { region.new
-        ≡ pcc_written 64 heading message.now k region.old id notify }
+        ≡ pcc_written 64 message.entry.heading message.entry.bytes.now k region.old id notify }
 {
-    let packet = cut(LARGEST_BODY, message, heading, k)?;
+    let packet = cut(LARGEST_BODY, message, k)?;
     pcc::write_apart(
         LARGEST_BODY,
         region,
@@ -97,15 +90,14 @@ pub fn to_pcc(
 pub fn to_ring(
     ring: &mut [u8],
     offered: Offered,
-    message: &[u8],
-    heading: Heading,
+    message: Message,
     k: usize,
 ) -> Result<usize, Refusal>
-    ensures answer { entered_in result ≡ ring_entered 64 heading message.now k
+    ensures answer { entered_in result ≡ ring_entered 64 message.entry.heading message.entry.bytes.now k
         (length ring.old) offered.configured offered.flags offered.pointers }
-    ensures ring { ring.new ≡ ring_written 64 heading message.now k
+    ensures ring { ring.new ≡ ring_written 64 message.entry.heading message.entry.bytes.now k
         ring.old offered.configured offered.flags offered.pointers }
 {
-    let packet = cut(LARGEST_BODY, message, heading, k)?;
+    let packet = cut(LARGEST_BODY, message, k)?;
     ring::write_apart(LARGEST_BODY, ring, offered, &packet.header, packet.body)
 }
