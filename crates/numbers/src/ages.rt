@@ -1,6 +1,6 @@
 // How long a slot waits: limits at set-up, and a start with one packet more.
 use crate::answers::{Message, answered, done};
-use crate::packets::{MEMORY, fresh, give};
+use crate::packets::{MEMORY, fresh, small};
 use mctp::Eid;
 use told::{Answer, Page};
 
@@ -76,6 +76,6 @@ pub fn tell(page: &mut Page) {
 // The answer to the second packet.
 fn behind(start: u32, byte: u8, time: u32) -> Answer<Message> {
     let mut memory = MEMORY;
-    let begun = give::<5>(fresh(), &mut memory, START, start);
-    answered(give::<5>(begun.receiver, &mut memory, byte, time).answer)
+    let begun = receiver::give(fresh(), &mut memory, &small(START), start);
+    answered(receiver::give(begun.receiver, &mut memory, &small(byte), time).answer)
 }

@@ -1,7 +1,5 @@
 // What the receiver answers, in words.
-ghost use Rattle.std.specs.Prelude.{◌≤◌, ◌<◌, ◌^◌};
-
-use crate::packets::{Call, MEMORY, after, give};
+use crate::packets::{Call, MEMORY, after};
 use mctp::Refusal;
 use receiver::Kept;
 use std::fmt;
@@ -36,14 +34,11 @@ pub fn answered(answer: Result<Kept, Refusal>) -> Answer<Message> {
     Answer(answer.map(Message))
 }
 
-// The answer to a packet of N bytes after calls with packets of M.
-pub fn answered_after<const M: usize, const N: usize>(calls: &[Call], byte: u8) -> Answer<Message>
-    requires before { (4 ≤ M) × (M < 2 ^ 63) }
-    requires last { (4 ≤ N) × (N < 2 ^ 63) }
-{
+// The answer to a packet after some calls.
+pub fn answered_after(calls: &[Call], packet: &[u8]) -> Answer<Message> {
     let mut memory = MEMORY;
-    let before = after::<M>(calls, &mut memory);
-    answered(give::<N>(before, &mut memory, byte, 0).answer)
+    let before = after(calls, &mut memory);
+    answered(receiver::give(before, &mut memory, packet, 0).answer)
 }
 
 // What a call that changes the receiver came to.

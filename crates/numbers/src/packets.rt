@@ -1,8 +1,5 @@
 // Packets from EID 10 to EID 9, given one after another to a receiver at EID 9.
-ghost use Rattle.std.specs.Prelude.{◌≤◌, ◌<◌, ◌^◌};
-
 use mctp::Eid;
-use receiver::Given;
 use slots::Receiver;
 
 // Four slots of 1,024 bytes.
@@ -18,32 +15,34 @@ pub fn fresh() -> Receiver {
     slots::set_up(Eid(9), 1000).receiver
 }
 
-// A call on the receiver: a packet, by its byte of flags, sequence number and tag, or a slot freed.
+// A packet with a body of one byte, and one with the largest body, by their byte of flags, sequence number and tag.
+pub fn small(byte: u8) -> [u8; 5] {
+    [0x01, 0x09, 0x0A, byte, 0x00]
+}
+
+pub fn large(byte: u8) -> [u8; 68] {
+    let mut packet = [0; 68];
+    packet[..5].copy_from_slice(&small(byte));
+    packet
+}
+
+// A call on the receiver: one of these packets, or a slot freed.
 #[derive(Clone, Copy)]
 pub enum Call {
-    Packet(u8),
+    Small(u8),
+    Large(u8),
     Free(usize),
 }
 
-// What calls leave of a fresh receiver, with packets of N bytes. All come at one time.
-pub fn after<const N: usize>(calls: &[Call], memory: &mut Memory) -> Receiver
-    requires { (4 ≤ N) × (N < 2 ^ 63) }
-{
+// What calls leave of a fresh receiver. All come at one time.
+pub fn after(calls: &[Call], memory: &mut Memory) -> Receiver {
     let mut receiver = fresh();
     for call in calls {
         receiver = match *call {
-            Call::Packet(byte) => give::<N>(receiver, memory, byte, 0).receiver,
+            Call::Small(byte) => receiver::give(receiver, memory, &small(byte), 0).receiver,
+            Call::Large(byte) => receiver::give(receiver, memory, &large(byte), 0).receiver,
             Call::Free(slot) => slots::free(receiver, slot).receiver,
         };
     }
     receiver
-}
-
-// A packet of N bytes.
-pub fn give<const N: usize>(before: Receiver, memory: &mut Memory, byte: u8, time: u32) -> Given
-    requires { (4 ≤ N) × (N < 2 ^ 63) }
-{
-    let mut packet = [0; N];
-    packet[..4].copy_from_slice(&[0x01, 0x09, 0x0A, byte]);
-    receiver::give(before, memory, &packet, time)
 }

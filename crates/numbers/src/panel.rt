@@ -1,19 +1,19 @@
 // What the front panel shows, call by call: packets with bodies of 64 bytes, and a slot freed.
-use crate::packets::Call::{Free, Packet};
+use crate::packets::Call::{Free, Large};
 use crate::packets::{Call, MEMORY, after};
 use slots::Tallies;
 use std::fmt;
 use told::Page;
 
 const CALLS: [Call; 8] = [
-    Packet(0x88),
-    Packet(0x88),
-    Packet(0x89),
-    Packet(0x18),
-    Packet(0x0A),
-    Packet(0x29),
+    Large(0x88),
+    Large(0x88),
+    Large(0x89),
+    Large(0x18),
+    Large(0x0A),
+    Large(0x29),
     Free(0),
-    Packet(0xCB),
+    Large(0xCB),
 ];
 
 pub fn tell(page: &mut Page) {
@@ -32,7 +32,7 @@ pub fn tell(page: &mut Page) {
         ("panel after slot 0 is freed: ", &CALLS[..7]),
         ("panel after a message of one packet: ", &CALLS[..8]),
     ] {
-        let receiver = after::<68>(calls, &mut MEMORY);
+        let receiver = after(calls, &mut MEMORY);
         page.line(words, Panel(slots::tallies_of(receiver)));
     }
 }

@@ -1,7 +1,5 @@
 // Messages cut into packets. One of 130 bytes from EID 10 to EID 9, with tag owner, tag 5 and first sequence 3, has
 // document 01's bodies of 64, 64 and 2 with flags BD, 0D and 5D.
-ghost use Rattle.std.specs.Prelude.{◌<◌, ◌^◌};
-
 use crate::headers::Fields;
 use crate::packets::{MEMORY, Memory, fresh};
 use crate::paths::Brought;
@@ -15,22 +13,25 @@ const MESSAGE: [u8; 130] = [0; 130];
 
 pub fn tell(page: &mut Page) {
     page.section("Messages sent from EID 10 to EID 9, tag owner, tag 5, first sequence 3");
-    page.line("message of 0 bytes: ", Answer(count::<0>()));
-    page.line("message of 1 byte: ", Answer(count::<1>()));
-    page.line("message of 64 bytes: ", Answer(count::<64>()));
-    page.line("message of 65 bytes: ", Answer(count::<65>()));
-    page.line("message of 1024 bytes: ", Answer(count::<1024>()));
-    page.line("message of 1025 bytes: ", Answer(count::<1025>()));
-    page.line("message of 130 bytes: ", Answer(count::<130>()));
-    page.line("its packet 0: ", Answer(cut::<68>(9, 0)));
-    page.line("its packet 1: ", Answer(cut::<68>(9, 1)));
-    page.line("its packet 2: ", Answer(cut::<68>(9, 2)));
-    page.line("its packet 3: ", Answer(cut::<68>(9, 3)));
+    page.line("message of 0 bytes: ", Answer(count(&[0; 0])));
+    page.line("message of 1 byte: ", Answer(count(&[0; 1])));
+    page.line("message of 64 bytes: ", Answer(count(&[0; 64])));
+    page.line("message of 65 bytes: ", Answer(count(&[0; 65])));
+    page.line("message of 1024 bytes: ", Answer(count(&[0; 1024])));
+    page.line("message of 1025 bytes: ", Answer(count(&[0; 1025])));
+    page.line("message of 130 bytes: ", Answer(count(&[0; 130])));
+    page.line("its packet 0: ", Answer(cut(&mut [0; 68], 9, 0)));
+    page.line("its packet 1: ", Answer(cut(&mut [0; 68], 9, 1)));
+    page.line("its packet 2: ", Answer(cut(&mut [0; 68], 9, 2)));
+    page.line("its packet 3: ", Answer(cut(&mut [0; 68], 9, 3)));
     page.line(
         "its packet 0 in an output of 67 bytes: ",
-        Answer(cut::<67>(9, 0)),
+        Answer(cut(&mut [0; 67], 9, 0)),
     );
-    page.line("its packet 0 to EID 7 instead: ", Answer(cut::<68>(7, 0)));
+    page.line(
+        "its packet 0 to EID 7 instead: ",
+        Answer(cut(&mut [0; 68], 7, 0)),
+    );
     page.line(
         "its frames, one by one to a fresh receiver at EID 9: ",
         sent(),
@@ -47,11 +48,8 @@ impl fmt::Display for Packets {
     }
 }
 
-// The number of packets of a message of N bytes.
-fn count<const N: usize>() -> Result<Packets, Refusal>
-    requires { N < 2 ^ 63 }
-{
-    sender::count(&[0; N]).map(Packets)
+fn count(message: &[u8]) -> Result<Packets, Refusal> {
+    sender::count(message).map(Packets)
 }
 
 // The 130 bytes to this EID.
@@ -86,16 +84,13 @@ impl fmt::Display for Packet {
     }
 }
 
-// Packet k of the 130 bytes, in an output of N bytes.
-fn cut<const N: usize>(destination: u8, k: usize) -> Result<Packet, Refusal>
-    requires { N < 2 ^ 63 }
-{
-    let mut out = [0; N];
-    let size = sender::to_output(&mut out, message(destination), k)?;
+// Packet k of the 130 bytes, in a lent output.
+fn cut(out: &mut [u8], destination: u8, k: usize) -> Result<Packet, Refusal> {
+    let size = sender::to_output(out, message(destination), k)?;
     Ok(Packet {
         size,
         body: size.saturating_sub(4),
-        fields: Fields(mctp::header_of(&out[..size.min(N)])),
+        fields: Fields(mctp::header_of(&out[..size.min(out.len())])),
     })
 }
 
