@@ -11,6 +11,7 @@ use ring::{Found, Offered};
 use slots::Receiver;
 
 // A frame at our own address.
+#[tactic(auto, unfolding(crate::specs::Arrivals::smbus_brings, smbus::specs::Reading::packet_of))]
 pub fn from_smbus(
     frame: &[u8],
     own: u8,
@@ -31,6 +32,7 @@ pub fn from_smbus(
 }
 
 // A region under its subspace id.
+#[tactic(auto, unfolding(crate::specs::Arrivals::pcc_brings, pcc::specs::Reading::packet_of))]
 pub fn from_pcc(
     region: &[u8],
     id: u32,
@@ -58,6 +60,7 @@ pub fn from_pcc(
 
 // What stands in a ring. A packet is copied to the output's front first, and stays there whatever the message rules
 // answer.
+#[tactic(auto, unfolding(crate::specs::Arrivals::ring_brings))]
 pub fn from_ring(
     bytes: &[u8],
     offered: Offered,

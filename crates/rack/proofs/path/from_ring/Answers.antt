@@ -26,21 +26,3 @@ returns-in-Ok-Packet-clause-arrival c =
     let front = ring_front _ _ _ o.flags _ _ c.args.out.now c.read.result c.read.ensures.answer _ _
     (c.in-Ok-Packet.is ∙ ap Ok c.in-Ok-Packet.field-0-is) in
     rw (brings, c.give.ensures, ← front, ← c.read.ensures.output)
-
-pub returns-in-Ok-Empty-clause-arrival : goal.returns-in-Ok-Empty-clause-arrival
-returns-in-Ok-Empty-clause-arrival c =
-    let brings = ring_brings_lem _ _ _ c.args.offered.flags _ _ c.args.out.now c.read.result c.read.ensures.answer _
-    (c.in-Ok-Empty.is ∙ ap Ok c.in-Ok-Empty.field-0-is) in
-    rw (c.no_packet.ensures, brings)
-
-pub returns-in-Ok-Skipped-clause-arrival : goal.returns-in-Ok-Skipped-clause-arrival
-returns-in-Ok-Skipped-clause-arrival c =
-    let brings = ring_brings_lem _ _ _ c.args.offered.flags _ _ c.args.out.now c.read.result c.read.ensures.answer _
-    (c.in-Ok-Skipped.is ∙ ap Ok c.in-Ok-Skipped.field-0-is) in
-    rw (c.no_packet-in-Ok-Skipped.ensures, brings)
-
-pub returns-in-Err-clause-arrival : goal.returns-in-Err-clause-arrival
-returns-in-Err-clause-arrival c =
-    let brings = ring_brings_lem _ _ _ c.args.offered.flags _ _ c.args.out.now c.read.result c.read.ensures.answer _
-    c.in-Err.is in
-    rw (c.no_packet-in-Err.ensures, c.into.ensures, brings)
