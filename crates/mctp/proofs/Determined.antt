@@ -78,7 +78,9 @@ pub no_requires : ((κs : Lfts 0) (a : _) → is-null.Pre κs a)
     × ((κs : Lfts 1) (a : _) → header_of.Pre κs a)
     × ((κs : Lfts 0) (a : _) → header-bytes.Pre κs a)
     × ((κs : Lfts 0) (a : _) → number.Pre κs a)
+    × ((κs : Lfts 2) (a : _) → key-equal.Pre κs a)
 no_requires = (
+  (λ κs a. tt),
   (λ κs a. tt),
   (λ κs a. tt),
   (λ κs a. tt),
