@@ -24,8 +24,8 @@ use Rattle.pcc.proofs.write.Reads as pcc-write
 use Rattle.pcc.proofs.write_apart.Reads as pcc-write-apart
 use Rattle.mmbi.specs.Changes.{changed_flags}
 use Rattle.mmbi.specs.Interface.{state_of, is_transient, may_write}
-use Rattle.mmbi.proofs.changed_flags.Reads as changed-flags
-use Rattle.mmbi.proofs.transient.Reads as transient
+use Rattle.mmbi.proofs.Flags.changed.Reads as changed-flags
+use Rattle.mmbi.proofs.InterfaceState.is_transient.Reads as transient
 use Rattle.handshake.specs.Phases.{host_number, host_refusal, host_stored, host_asked, stored_refusal, stored_number}
 use Rattle.handshake.specs.Phases.{controller_number, controller_refusal, controller_stored, controller_asked}
 use Rattle.handshake.specs.Starts.{host_at_power_up, host_from_flags, controller_at_power_up, controller_from_flags}

@@ -116,7 +116,7 @@ struct ReadBack(Interface);
 impl fmt::Display for ReadBack {
     fn fmt<W: fmt::Write>(&self, f: &mut fmt::Formatter<W>) -> fmt::Result {
         let seen = self.0;
-        match mmbi::state(seen.flags) {
+        match seen.flags.state() {
             InterfaceState::NormalRuntime => write!(f, "normal runtime")?,
             _ => write!(f, "not in normal runtime")?,
         }

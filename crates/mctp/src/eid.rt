@@ -2,7 +2,7 @@
 ghost use Rattle.std.specs.Prelude.{◌≡◌};
 ghost use Rattle.mctp.specs.Eid.{null_eid, broadcast_eid, reserved_eid, endpoint_eid};
 
-#[derive(Clone, Copy, PartialEq, Eq)]
+#[derive(Clone, Copy, PartialEq, Eq, PartialOrd, Ord)]
 pub struct Eid(pub u8);
 
 impl Eid {
@@ -29,13 +29,13 @@ impl Eid {
     pub fn is_reserved(self) -> bool
         ensures { result ≡ reserved_eid self.0 }
     {
-        (Eid::FIRST_RESERVED.0..=Eid::LAST_RESERVED.0).contains(&self.0)
+        (Eid::FIRST_RESERVED..=Eid::LAST_RESERVED).contains(&self)
     }
 
     // What one endpoint goes by: an own EID, or a source that may send.
     pub fn is_endpoint(self) -> bool
         ensures { result ≡ endpoint_eid self.0 }
     {
-        !self.is_reserved() & !self.is_broadcast()
+        !self.is_reserved() && !self.is_broadcast()
     }
 }

@@ -48,10 +48,10 @@ pub fn key_of(packet: &[u8]) -> Key
 {
     let flags = octets::byte_at(packet, 3);
     Key {
-        destination: Eid(octets::byte_at(packet, 1) as u8),
-        source: Eid(octets::byte_at(packet, 2) as u8),
+        destination: Eid(octets::byte_at(packet, 1)),
+        source: Eid(octets::byte_at(packet, 2)),
         owner: flags / 8 % 2 == 1,
-        tag: (flags % 8) as u8,
+        tag: flags % 8,
     }
 }
 
@@ -62,10 +62,10 @@ pub fn header_of(packet: &[u8]) -> Header
 {
     let flags = octets::byte_at(packet, 3);
     Header {
-        version: (octets::byte_at(packet, 0) % 16) as u8,
+        version: octets::byte_at(packet, 0) % 16,
         start: flags / 128 % 2 == 1,
         end: flags / 64 % 2 == 1,
-        sequence: (flags / 16 % 4) as u8,
+        sequence: flags / 16 % 4,
         key: key_of(packet),
     }
 }

@@ -9,13 +9,13 @@ use Rattle.mmbi.specs.declared.interface.Flags.{Flags}
 use Rattle.mmbi.specs.declared.interface.InterfaceState.{InterfaceState}
 use Rattle.mmbi.specs.declared.word.Word.{Word}
 use Rattle.mmbi.specs.Interface.{same_flags}
-use Rattle.mmbi.proofs.change.changed_flags.Reads as changed-flags
-use Rattle.mmbi.proofs.change.changed_word.Reads as changed-word
+use Rattle.mmbi.proofs.interface.Flags.changed.Reads as changed-flags
+use Rattle.mmbi.proofs.word.Word.changed.Reads as changed-word
 use Rattle.mmbi.proofs.interface.FlagsPartialEq.eq.Reads as equal
-use Rattle.mmbi.proofs.interface.state.Reads as state
-use Rattle.mmbi.proofs.interface.transient.Reads as transient
-use Rattle.mmbi.proofs.interface.may_read.Reads as may_read_lem
-use Rattle.mmbi.proofs.interface.may_write.Reads as may_write_lem
+use Rattle.mmbi.proofs.interface.Flags.state.Reads as state
+use Rattle.mmbi.proofs.interface.InterfaceState.is_transient.Reads as transient
+use Rattle.mmbi.proofs.interface.InterfaceState.may_read.Reads as may_read_lem
+use Rattle.mmbi.proofs.interface.InterfaceState.may_write.Reads as may_write_lem
 use Rattle.mmbi.proofs.pointer.length_right.Reads as length-right
 use Rattle.mmbi.proofs.pointer.pointer_right.Reads as pointer-right
 use Rattle.mmbi.proofs.word.WordFromU32.from.Reads as of_number

@@ -23,54 +23,60 @@ pub enum Change {
     Controller(Act),
 }
 
-// The four flags once this change is made.
-pub fn changed_flags(flags: Flags, change: Change) -> Flags
-    ensures { result ≡ changed_flags change flags }
-{
-    match change {
-        Change::Nothing => flags,
-        Change::Host(act) => Flags {
-            host_up: up_after(act, flags.host_up),
-            host_reset: reset_after(act, flags.host_reset),
-            ..flags
-        },
-        Change::Controller(act) => Flags {
-            controller_up: up_after(act, flags.controller_up),
-            controller_reset: reset_after(act, flags.controller_reset),
-            ..flags
-        },
+impl Act {
+    fn up_after(self, up: bool) -> bool
+        ensures { result ≡ up_after self up }
+    {
+        match self {
+            Act::SetUp => true,
+            Act::ClearUp | Act::ClearBoth => false,
+            Act::SetReset | Act::ClearReset => up,
+        }
+    }
+
+    fn reset_after(self, reset: bool) -> bool
+        ensures { result ≡ reset_after self reset }
+    {
+        match self {
+            Act::SetUp | Act::ClearUp => reset,
+            Act::SetReset => true,
+            Act::ClearReset => false,
+            Act::ClearBoth => false, // "clears the H_UP and H_RST flags"
+        }
     }
 }
 
-// A word beside whose pointer an end's flags stand, once they are changed; the pointer is as it was.
-#[tactic(auto, unfolding(crate::specs::Changes::changed_word))]
-pub fn changed_word(word: Word, act: Act) -> Word
-    ensures { result ≡ changed_word act word }
-{
-    Word {
-        bit1: up_after(act, word.bit1),
-        bit0: reset_after(act, word.bit0),
-        ..word
+impl Flags {
+    // The four flags once this change is made.
+    pub fn changed(self, change: Change) -> Flags
+        ensures { result ≡ changed_flags change self }
+    {
+        match change {
+            Change::Nothing => self,
+            Change::Host(act) => Flags {
+                host_up: act.up_after(self.host_up),
+                host_reset: act.reset_after(self.host_reset),
+                ..self
+            },
+            Change::Controller(act) => Flags {
+                controller_up: act.up_after(self.controller_up),
+                controller_reset: act.reset_after(self.controller_reset),
+                ..self
+            },
+        }
     }
 }
 
-fn up_after(act: Act, up: bool) -> bool
-    ensures { result ≡ up_after act up }
-{
-    match act {
-        Act::SetUp => true,
-        Act::ClearUp | Act::ClearBoth => false,
-        Act::SetReset | Act::ClearReset => up,
-    }
-}
-
-fn reset_after(act: Act, reset: bool) -> bool
-    ensures { result ≡ reset_after act reset }
-{
-    match act {
-        Act::SetUp | Act::ClearUp => reset,
-        Act::SetReset => true,
-        Act::ClearReset => false,
-        Act::ClearBoth => false, // "clears the H_UP and H_RST flags"
+impl Word {
+    // A word beside whose pointer an end's flags stand, once they are changed; the pointer is as it was.
+    #[tactic(auto, unfolding(crate::specs::Changes::changed_word))]
+    pub fn changed(self, act: Act) -> Word
+        ensures { result ≡ changed_word act self }
+    {
+        Word {
+            bit1: act.up_after(self.bit1),
+            bit0: act.reset_after(self.bit0),
+            ..self
+        }
     }
 }

@@ -68,6 +68,31 @@ impl Flags {
         host_up: true,
         host_reset: true,
     };
+
+    // All sixteen rows of Table 5, in its order.
+    #[tactic(auto, unfolding(crate::specs::Interface::state_of))]
+    pub fn state(self) -> InterfaceState
+        ensures { result ≡ state_of self }
+    {
+        match (
+            self.controller_up,
+            self.controller_reset,
+            self.host_up,
+            self.host_reset,
+        ) {
+            (false, false, false, false) => InterfaceState::InitializationInProgress,
+            (true, false, false, false) => InterfaceState::InitializationCompleted,
+            (true, false, true, false) => InterfaceState::NormalRuntime,
+            (true, true, true, false) => InterfaceState::ResetRequestByController,
+            (true, false, true, true) => InterfaceState::ResetRequestByHost,
+            (true, true, true, true) => InterfaceState::ResetAcked,
+            (false, true, true, true) => InterfaceState::TransitioningToInitialization,
+            (false, true, true, false) | (false, true, false, _) | (false, false, false, true) =>
+                InterfaceState::TemporaryTransition,
+            (true, false, false, true) => InterfaceState::InitializationMismatch,
+            (true, true, false, _) | (false, false, true, _) => InterfaceState::Unexpected,
+        }
+    }
 }
 
 // The names of Table 5.
@@ -85,62 +110,39 @@ pub enum InterfaceState {
     Unexpected,
 }
 
-// All sixteen rows of Table 5, in its order.
-#[tactic(auto, unfolding(crate::specs::Interface::state_of))]
-pub fn state(flags: Flags) -> InterfaceState
-    ensures { result ≡ state_of flags }
-{
-    match (
-        flags.controller_up,
-        flags.controller_reset,
-        flags.host_up,
-        flags.host_reset,
-    ) {
-        (false, false, false, false) => InterfaceState::InitializationInProgress,
-        (true, false, false, false) => InterfaceState::InitializationCompleted,
-        (true, false, true, false) => InterfaceState::NormalRuntime,
-        (true, true, true, false) => InterfaceState::ResetRequestByController,
-        (true, false, true, true) => InterfaceState::ResetRequestByHost,
-        (true, true, true, true) => InterfaceState::ResetAcked,
-        (false, true, true, true) => InterfaceState::TransitioningToInitialization,
-        (false, true, true, false) | (false, true, false, _) | (false, false, false, true) =>
-            InterfaceState::TemporaryTransition,
-        (true, false, false, true) => InterfaceState::InitializationMismatch,
-        (true, true, false, _) | (false, false, true, _) => InterfaceState::Unexpected,
+impl InterfaceState {
+    // What document 01 calls transient: every state that it gives no name of its own.
+    pub fn is_transient(self) -> bool
+        ensures { result ≡ is_transient self }
+    {
+        matches!(
+            self,
+            InterfaceState::InitializationInProgress
+                | InterfaceState::TransitioningToInitialization
+                | InterfaceState::TemporaryTransition
+                | InterfaceState::InitializationMismatch
+                | InterfaceState::Unexpected
+        )
     }
-}
 
-// What document 01 calls transient: every state that it gives no name of its own.
-pub fn transient(s: InterfaceState) -> bool
-    ensures { result ≡ is_transient s }
-{
-    matches!(
-        s,
-        InterfaceState::InitializationInProgress
-            | InterfaceState::TransitioningToInitialization
-            | InterfaceState::TemporaryTransition
-            | InterfaceState::InitializationMismatch
-            | InterfaceState::Unexpected
-    )
-}
+    // Whether a ring may be read: in normal runtime, and while one end alone asks for a reset, so that what was queued
+    // isn't dropped. A reset that is acknowledged is no longer a "reset-asked" state.
+    pub fn may_read(self) -> bool
+        ensures { result ≡ may_read self }
+    {
+        matches!(
+            self,
+            InterfaceState::NormalRuntime
+                | InterfaceState::ResetRequestByController
+                | InterfaceState::ResetRequestByHost
+        )
+    }
 
-// Whether a ring may be read: in normal runtime, and while one end alone asks for a reset, so that what was queued
-// isn't dropped. A reset that is acknowledged is no longer a "reset-asked" state.
-pub fn may_read(s: InterfaceState) -> bool
-    ensures { result ≡ may_read s }
-{
-    matches!(
-        s,
-        InterfaceState::NormalRuntime
-            | InterfaceState::ResetRequestByController
-            | InterfaceState::ResetRequestByHost
-    )
-}
-
-// Whether a ring may be written: in normal runtime alone. Once the host asks, "Host not allowed to write to any MMBI
-// structures".
-pub fn may_write(s: InterfaceState) -> bool
-    ensures { result ≡ may_write s }
-{
-    matches!(s, InterfaceState::NormalRuntime)
+    // Whether a ring may be written: in normal runtime alone. Once the host asks, "Host not allowed to write to any
+    // MMBI structures".
+    pub fn may_write(self) -> bool
+        ensures { result ≡ may_write self }
+    {
+        self == InterfaceState::NormalRuntime
+    }
 }

@@ -7,7 +7,7 @@ mod interface;
 mod pointer;
 mod word;
 
-pub use change::{Act, Change, changed_flags, changed_word};
-pub use interface::{Flags, InterfaceState, may_read, may_write, state, transient};
+pub use change::{Act, Change};
+pub use interface::{Flags, InterfaceState};
 pub use pointer::{Pointers, length_right, pointer_right};
 pub use word::Word;

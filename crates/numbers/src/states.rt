@@ -13,7 +13,7 @@ pub fn tell(page: &mut Page) {
         ("flags 1110: ", Flags::ASKED_BY_CONTROLLER),
         ("flags 1111: ", Flags::ACKNOWLEDGED),
     ] {
-        page.line(words, State(mmbi::state(flags)));
+        page.line(words, State(flags.state()));
     }
 }
 
@@ -23,7 +23,7 @@ struct State(InterfaceState);
 
 impl fmt::Display for State {
     fn fmt<W: fmt::Write>(&self, f: &mut fmt::Formatter<W>) -> fmt::Result {
-        if mmbi::transient(self.0) {
+        if self.0.is_transient() {
             return f.write_str("transient");
         }
         f.write_str(match self.0 {

@@ -15,7 +15,7 @@ use Rattle.octets.proofs.word.lay_word.Reads as lay-word
 
 pub byte_at_determined : (κs : Lfts 1) (a : _) (r q : ℕ) (e f : _)
     → byte_at.Post κs a r e → byte_at.Post κs a q f → r ≡ q
-byte_at_determined κs a r q e f p o = determined p.0 o.0
+byte_at_determined κs a r q e f p o = determined p o
 
 -- in every byte order
 pub word_at_determined : (O L o d : _) (κs : Lfts 2) (a : _) (r q : ℕ) (e f : _)

@@ -1,16 +1,9 @@
 // What is read out of a list, at any place: one byte, a part.
-ghost use Rattle.std.specs.Prelude.{◌≡◌, ◌<◌, get_or};
+ghost use Rattle.std.specs.Prelude.{◌≡◌, get_or};
 ghost use Rattle.octets.specs.Bytes.{part};
 
-// The byte at place `at`, 0 past the end, wide enough to count with.
-pub fn byte_at(s: &[u8], at: usize) -> u32
-    ensures { (result ≡ get_or s.now at 0) × (result < 256) }
-{
-    u32::from(octet(s, at))
-}
-
 // The byte at place `at`, 0 past the end.
-pub(crate) fn octet(s: &[u8], at: usize) -> u8
+pub fn byte_at(s: &[u8], at: usize) -> u8
     ensures { result ≡ get_or s.now at 0 }
 {
     s.get(at).copied().unwrap_or(0)

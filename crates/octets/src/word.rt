@@ -4,7 +4,7 @@ ghost use Rattle.octets.specs.Words.{Order, low_first, high_first, word_at, word
 ghost use Rattle.octets.specs.Bytes.{laid};
 
 use crate::copy::lay;
-use crate::read::{octet, part};
+use crate::read::{byte_at, part};
 
 // Which byte of a word stands first; the library's conversion for that order.
 pub trait ByteOrder {
@@ -53,10 +53,10 @@ pub fn word_at<O: ByteOrder>(s: &[u8], at: usize) -> u32
 {
     let four = part(s, at, 4);
     O::word([
-        octet(four, 0),
-        octet(four, 1),
-        octet(four, 2),
-        octet(four, 3),
+        byte_at(four, 0),
+        byte_at(four, 1),
+        byte_at(four, 2),
+        byte_at(four, 3),
     ])
 }
 

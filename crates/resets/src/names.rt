@@ -116,7 +116,7 @@ impl fmt::Display for Row {
     fn fmt<W: fmt::Write>(&self, f: &mut fmt::Formatter<W>) -> fmt::Result {
         let phase = self.phase;
         let sees = Digits(self.sees);
-        let state = state_name(mmbi::state(self.sees));
+        let state = state_name(self.sees.state());
         let does = Deed(self.does);
         let next = self.next;
         write!(f, "{phase} | {sees} | {state} | {does} | {next} |")

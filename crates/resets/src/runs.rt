@@ -97,6 +97,6 @@ fn make_step<P: Named>(phase: &mut P, flags: &mut Flags) -> Row {
     let step = phase.step(*flags);
     let row = Row::of(*phase, *flags, step);
     *phase = step.next;
-    *flags = mmbi::changed_flags(*flags, step.change);
+    *flags = flags.changed(step.change);
     row
 }

@@ -16,12 +16,12 @@ impl Offered {
     pub(crate) fn is_readable(self) -> bool
         ensures { result ≡ may_read (state_of self.flags) }
     {
-        mmbi::may_read(mmbi::state(self.flags))
+        self.flags.state().may_read()
     }
 
     pub(crate) fn is_writable(self) -> bool
         ensures { result ≡ may_write (state_of self.flags) }
     {
-        mmbi::may_write(mmbi::state(self.flags))
+        self.flags.state().may_write()
     }
 }

@@ -164,7 +164,7 @@ fn lay_flags(window: &mut [u8], c: Configuration, which: Pointer, act: Act)
     ensures { window.new ≡ with_flags window.old c which act }
 {
     let word = held(window, c, which);
-    lay_word(window, c, which, mmbi::changed_word(word, act));
+    lay_word(window, c, which, word.changed(act));
 }
 
 // Whether this pointer may be stored: else 1 or 12.

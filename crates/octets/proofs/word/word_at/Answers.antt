@@ -7,5 +7,5 @@ use Rattle.octets.proofs.word.word_at.Goals as goal
 pub returns : goal.returns
 returns g c =
     c.word.ensures
-    ∙ word_of_part _ _ _ _ _ _ _ _ c.part-four.ensures c.octet.ensures c.octet-2.ensures c.octet-3.ensures
-    c.octet-4.ensures
+    ∙ word_of_part _ _ _ _ _ _ _ _ c.part-four.ensures c.byte_at.ensures c.byte_at-2.ensures c.byte_at-3.ensures
+    c.byte_at-4.ensures
