@@ -3,8 +3,7 @@
 -- Assumes nothing.
 use mathlib.Core.Path.{◌≡◌, refl, ◌∙◌}
 use mathlib.Core.List.{List, [], ◌∷◌, ◌++◌, append_assoc}
-use Prim.Native.Nat.{ℕ, zero, suc, ◌+◌, ◌-◌, ◌≤◌, ◌<◌}
-use native.Mathlib.Nat.{sub-zero}
+use Prim.Native.Nat.{ℕ, zero, suc, ◌+◌, ◌≤◌, ◌<◌}
 use native.Mathlib.Omega.{arith}
 use lib.ListN.{length, take, replicate, length-append, length-replicate}
 use Rattle.octets.specs.Bytes.{laid}
@@ -38,7 +37,7 @@ module _ (ring : List ℕ) (p : ℕ) (straight : p + 4 ≤ length ring) where
         → q2 ≡ next_of (length ring) p (4 + length header)
         → q3 ≡ next_of (length ring) p (4 + (length header + length body))
         → l0 ≡ laid ring p (word_bytes high_first word) → l1 ≡ stored l0 q1 header → l2 ≡ stored l1 q2 body
-        → l3 ≡ stored l2 q3 (take (padding - 0) zeros) → l3 ≡ stored ring p (ring_bytes (header ++ body))
+        → l3 ≡ stored l2 q3 (take padding zeros) → l3 ≡ stored ring p (ring_bytes (header ++ body))
     unfolding ring_bytes
     steps {word = word} {padding = padding} ew ep e1 e2 e3 f0 f1 f2 f3 =
         let w = word_bytes high_first word in
@@ -48,7 +47,7 @@ module _ (ring : List ℕ) (p : ℕ) (straight : p + 4 ≤ length ring) where
         let three : length (w ++ header ++ body) ≡ 4 + (length header + length body) =
         simp length-append (omega arith) in
         let long : length pad ≡ padding = length-replicate {A = ℕ} padding 0 in
-        let front : take (padding - 0) zeros ≡ pad = rw sub-zero (zeros_front padding (omega arith)) in
+        let front : take padding zeros ≡ pad = zeros_front padding (omega arith) in
         let s0 = f0 ∙ stored_straight ring p w (omega arith) (omega arith) in
         let s1 = piece w header s0 four e1 (omega arith) f1 in
         let s2 = piece (w ++ header) body s1 two e2 (omega arith) f2 in
