@@ -1,12 +1,13 @@
 // A message cut into packets: how many there are, and packet k as a header and a part of the message.
 ghost use Rattle.std.specs.Prelude.{◌≡◌, ◌++◌, ◌*◌, ◌≤◌, ◌<◌, length, IfOk};
+ghost use Rattle.mctp.specs.Apart.{joined};
 ghost use Rattle.mctp.specs.Refusals.{outcome_number};
 ghost use Rattle.sender.specs.Cutting.{message_right, packet_header, count_refusal, count_of, cut_refusal};
 ghost use Rattle.sender.specs.Messages.{packet_of, cut_refusal_of};
 ghost use Rattle.sender.specs.Answers.{number_counted, packets_counted};
 
 use crate::heading::{Heading, Message};
-use mctp::{Header, LARGEST_BODY, Refusal};
+use mctp::{Apart, Header, LARGEST_BODY, Refusal};
 
 // How many packets there are of a message.
 pub fn count(message: &[u8]) -> Result<usize, Refusal>
@@ -41,6 +42,18 @@ fn message_right(size: usize) -> bool
 pub struct Packet<'a> {
     pub header: [u8; 4],
     pub body: &'a [u8],
+}
+
+impl Packet<'_> {
+    // As a carrier's writer takes it.
+    pub fn apart(&self) -> Apart<'_>
+        ensures { joined result ≡ self.now.header ++ self.now.body.now }
+    {
+        Apart {
+            header: &self.header,
+            body: self.body,
+        }
+    }
 }
 
 // Packet k of a message: all that is refused before it goes anywhere is refused here.

@@ -46,14 +46,7 @@ pub fn to_smbus(
     ensures output { out.new ≡ smbus_written_of 64 message.entry k out.old destination source }
 {
     let packet = cut(LARGEST_BODY, message, k)?;
-    smbus::write_apart(
-        LARGEST_BODY,
-        out,
-        &packet.header,
-        packet.body,
-        destination,
-        source,
-    )
+    smbus::write_apart(LARGEST_BODY, out, packet.apart(), destination, source)
 }
 
 // Packet k in a region, under its id.
@@ -69,14 +62,7 @@ pub fn to_pcc(
     ensures region { region.new ≡ pcc_written_of 64 message.entry k region.old id notify }
 {
     let packet = cut(LARGEST_BODY, message, k)?;
-    pcc::write_apart(
-        LARGEST_BODY,
-        region,
-        id,
-        notify,
-        &packet.header,
-        packet.body,
-    )
+    pcc::write_apart(LARGEST_BODY, region, id, notify, packet.apart())
 }
 
 // Packet k in a ring, at the write pointer: the new write pointer.
@@ -91,5 +77,5 @@ pub fn to_ring(
     ensures ring { ring.new ≡ ring_written_of 64 message.entry k ring.old offered }
 {
     let packet = cut(LARGEST_BODY, message, k)?;
-    ring::write_apart(LARGEST_BODY, ring, offered, &packet.header, packet.body)
+    ring::write_apart(LARGEST_BODY, ring, offered, packet.apart())
 }
