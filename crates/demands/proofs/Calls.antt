@@ -94,13 +94,13 @@ pub smbus_write_is : (κs : Lfts 2) (a r e : _) → smbus-write.Post κs a r e
 smbus_write_is κs a r e p = (p.0, p.1.0, p.1.1)
 
 -- the same with the largest body first, and the packet in two pieces
-pub smbus_write_apart_is : (κs : Lfts 3) (a r e : _) → smbus-write-apart.Post κs a r e
-    → let packet = a.1.1.0.now ++ a.1.1.1.0.now in
+pub smbus_write_apart_is : (κs : Lfts 2) (a r e : _) → smbus-write-apart.Post κs a r e
+    → let packet = a.1.1.0.header.now ++ a.1.1.0.body.now in
     (smbus-says.number_written r
-    ≡ frames.write_refusal a.0 (length a.1.0.now) (length packet) a.1.1.1.1.0 a.1.1.1.1.1.0)
+    ≡ frames.write_refusal a.0 (length a.1.0.now) (length packet) a.1.1.1.0 a.1.1.1.1.0)
     × (smbus-says.size_written r
-    ≡ frames.size_of a.0 (length a.1.0.now) (length packet) a.1.1.1.1.0 a.1.1.1.1.1.0)
-    × (e.1.0.now ≡ frames.written_of a.0 a.1.0.now packet a.1.1.1.1.0 a.1.1.1.1.1.0)
+    ≡ frames.size_of a.0 (length a.1.0.now) (length packet) a.1.1.1.0 a.1.1.1.1.0)
+    × (e.1.0.now ≡ frames.written_of a.0 a.1.0.now packet a.1.1.1.0 a.1.1.1.1.0)
 smbus_write_apart_is κs a r e p = (p.0, p.1.0, p.1.1)
 
 -- PCC: a region and its id; a region, its id, the notify flag and a packet
@@ -118,8 +118,8 @@ pub pcc_write_is : (κs : Lfts 2) (a r e : _) → pcc-write.Post κs a r e
     × (e.0.now ≡ regions.written_of 64 a.0.now a.1.0 a.1.1.0 a.1.1.1.0.now)
 pcc_write_is κs a r e p = (p.0, p.1)
 
-pub pcc_write_apart_is : (κs : Lfts 3) (a r e : _) → pcc-write-apart.Post κs a r e
-    → let packet = a.1.1.1.1.0.now ++ a.1.1.1.1.1.0.now in
+pub pcc_write_apart_is : (κs : Lfts 2) (a r e : _) → pcc-write-apart.Post κs a r e
+    → let packet = a.1.1.1.1.0.header.now ++ a.1.1.1.1.0.body.now in
     (number_written r ≡ regions.write_refusal a.0 (length a.1.0.now) a.1.1.0 (length packet))
     × (e.1.0.now ≡ regions.written_of a.0 a.1.0.now a.1.1.0 a.1.1.1.0 packet)
 pcc_write_apart_is κs a r e p = (p.0, p.1)
@@ -134,8 +134,8 @@ pub ring_write_is : (κs : Lfts 2) (a r e : _) → ring-write.Post κs a r e
     × (e.0.now ≡ putting.written_of 64 a.0.now o.configured running o.pointers.read o.pointers.write a.1.1.0.now)
 ring_write_is κs a r e p = (p.0, p.1)
 
-pub ring_write_apart_is : (κs : Lfts 3) (a r e : _) → ring-write-apart.Post κs a r e
-    → let packet = a.1.1.1.0.now ++ a.1.1.1.1.0.now in
+pub ring_write_apart_is : (κs : Lfts 2) (a r e : _) → ring-write-apart.Post κs a r e
+    → let packet = a.1.1.1.0.header.now ++ a.1.1.1.0.body.now in
     let o = a.1.1.0 in
     let running = may_write (state_of o.flags) in
     (entered_in r

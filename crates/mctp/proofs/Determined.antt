@@ -6,8 +6,11 @@ use mathlib.Core.List.{List}
 use Prim.Native.Nat.{ℕ}
 use contract.Lifetimes.{Lfts}
 use Rattle.octets.proofs.Choice.{determined}
+use Rattle.mctp.specs.declared.apart.Apart.{Apart}
 use Rattle.mctp.specs.declared.packet.Key.{Key}
 use Rattle.mctp.specs.declared.packet.Header.{Header}
+use Rattle.mctp.proofs.apart.Apart.size.Reads as apart-size
+use Rattle.mctp.proofs.apart.Apart.whole.Reads as whole
 use Rattle.mctp.proofs.eid.Eid.is_null.Reads as is-null
 use Rattle.mctp.proofs.eid.Eid.is_broadcast.Reads as is-broadcast
 use Rattle.mctp.proofs.eid.Eid.is_reserved.Reads as is-reserved
@@ -61,6 +64,15 @@ header_bytes_determined κs a r q e f p o = determined p o
 pub number_determined : (κs : Lfts 0) (a : _) (r q : ℕ) (e f : _) → number.Post κs a r e → number.Post κs a q f → r ≡ q
 number_determined κs a r q e f p o = determined p o
 
+-- a packet in two pieces: its size, and the pieces of one that lies whole
+pub apart_size_determined : (κs : Lfts 1) (a : _) (r q : ℕ) (e f : _)
+    → apart-size.Post κs a r e → apart-size.Post κs a q f → r ≡ q
+apart_size_determined κs a r q e f p o = determined p.0 o.0
+
+pub whole_determined : (κs : Lfts 1) (a : _) (r q : Apart) (e f : _)
+    → whole.Post κs a r e → whole.Post κs a q f → (r.header.now ≡ q.header.now) × (r.body.now ≡ q.body.now)
+whole_determined κs a r q e f p o = (determined p.0 o.0, determined p.1 o.1)
+
 -- `==` on keys is the test on two keys, whose four parts it compares
 pub keys_equal : (κs : Lfts 2) (a : _) (r : Bool) (e : _)
     → key-equal.Post κs a r e → r ≡ same_key a.0.now a.1.0.now
@@ -79,7 +91,11 @@ pub no_requires : ((κs : Lfts 0) (a : _) → is-null.Pre κs a)
     × ((κs : Lfts 0) (a : _) → header-bytes.Pre κs a)
     × ((κs : Lfts 0) (a : _) → number.Pre κs a)
     × ((κs : Lfts 2) (a : _) → key-equal.Pre κs a)
+    × ((κs : Lfts 1) (a : _) → apart-size.Pre κs a)
+    × ((κs : Lfts 1) (a : _) → whole.Pre κs a)
 no_requires = (
+  (λ κs a. tt),
+  (λ κs a. tt),
   (λ κs a. tt),
   (λ κs a. tt),
   (λ κs a. tt),

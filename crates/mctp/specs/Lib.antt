@@ -1,3 +1,4 @@
+pub mod Apart
 pub mod Eid
 pub mod Packet
 pub mod Key

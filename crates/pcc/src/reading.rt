@@ -23,10 +23,10 @@ pub fn read(region: &[u8], id: u32) -> Result<Packet, Refusal>
 pub fn packet(region: &[u8], id: u32) -> &[u8]
     ensures { result.now ≡ packet_of 64 region.now id }
 {
-    let Ok(packet) = read(region, id) else {
-        return part(region, 0);
-    };
-    part(region, packet.size)
+    match read(region, id) {
+        Ok(packet) => part(region, packet.size),
+        Err(_) => &[],
+    }
 }
 
 // The refusal's number; 0 where good.
@@ -52,7 +52,7 @@ pub fn part(region: &[u8], size: usize) -> &[u8]
     octets::part(region, 16, size)
 }
 
-// The one function that looks at a region, with the largest body as a number.
+// Reading with the largest body as a number: the flag only of a region that every check lets through.
 #[tactic(auto, unfolding(crate::specs::Reading::notify_of))]
 fn read_within(most: usize, region: &[u8], id: u32) -> Result<Packet, Refusal>
     ensures number { number_read result ≡ refusal_of most region.now id }

@@ -7,8 +7,9 @@ use Rattle.mmbi.specs.declared.interface.Flags.{Flags}
 use Rattle.mmbi.specs.Interface.{state_of, may_read}
 use Rattle.smbus.specs.Reading as smbus
 use Rattle.pcc.specs.Reading as pcc
+use Rattle.ring.specs.declared.offer.Offered.{Offered}
 use Rattle.ring.specs.Round.{round_from}
-use Rattle.ring.specs.Layout as ringLayout
+use Rattle.ring.specs.Layout as ring_layout
 use Rattle.ring.specs.Reading as ring
 use Rattle.rack.specs.declared.answer.Beside.{Beside}
 use Rattle.rack.specs.declared.answer.Beside.TheVariants.{Source, Notify, Next}
@@ -60,7 +61,7 @@ pcc_brings most region id =
 
 -- a ring that starts at the read pointer: "A good ring arrival gives the new read pointer"
 abbrev pub found_brings : List ℕ → ring.Found → Brought
-found_brings s (ring.packet size next) = packet (ringLayout.packet_of s) (Next next)
+found_brings s (ring.packet size next) = packet (ring_layout.packet_of s) (Next next)
 found_brings s ring.empty = none empty
 found_brings s (ring.skipped number next) = none (skipped number next)
 found_brings s (ring.refused number) = none (refused number)
@@ -71,6 +72,11 @@ unfoldable pub ring_brings : (most : ℕ) (bytes : List ℕ) (configured : ℕ) 
 ring_brings most bytes configured flags read write out =
     found_brings (round_from read bytes)
     (ring.found_of most bytes configured (may_read (state_of flags)) read write (length out))
+
+-- the same, at what is offered beside the ring's bytes
+abbrev pub ring_brings_at : (most : ℕ) (bytes : List ℕ) → Offered → (out : List ℕ) → Brought
+ring_brings_at most bytes offered out =
+    ring_brings most bytes offered.configured offered.flags offered.pointers.read offered.pointers.write out
 
 -- "The carrier's checks come first, all of them": what the carrier of an arrival makes of it
 abbrev pub brings : ℕ → Arrival → Brought

@@ -1,9 +1,8 @@
 // One call for each path: it takes the carrier's answer apart and leaves at once unless it is a packet. "A carrier's
 // refusal never reaches the slots." `time` is the millisecond count at the call, for the message rules.
 ghost use Rattle.std.specs.Prelude.{◌≡◌, Err};
-ghost use Rattle.mmbi.specs.Interface.{state_of, may_read};
-ghost use Rattle.ring.specs.Reading.{output_of};
-ghost use Rattle.rack.specs.Arrivals.{packet as brought, smbus_brings, pcc_brings, ring_brings};
+ghost use Rattle.ring.specs.Offers.{output_at};
+ghost use Rattle.rack.specs.Arrivals.{packet as brought, smbus_brings, pcc_brings, ring_brings_at};
 ghost use Rattle.rack.specs.Answers.{after_arrival, arrived_of};
 
 use crate::answer::{Arrived, Beside, NoPacket, Received};
@@ -71,10 +70,8 @@ pub fn from_ring(
 ) -> Received
     ensures arrival { after_arrival result memory.new
         ≡ arrived_of 64 time receiver memory.old
-        (ring_brings 64 bytes.now offered.configured offered.flags
-        offered.pointers.read offered.pointers.write out.old) }
-    ensures output { out.new ≡ output_of 64 bytes.now offered.configured
-        (may_read (state_of offered.flags)) offered.pointers.read offered.pointers.write out.old }
+        (ring_brings_at 64 bytes.now offered out.old) }
+    ensures output { out.new ≡ output_at 64 bytes.now offered out.old }
 {
     match ring::read(bytes, offered, out) {
         Ok(Found::Packet { size, next }) => {

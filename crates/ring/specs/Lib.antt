@@ -4,4 +4,5 @@ pub mod Layout
 pub mod Reading
 pub mod Writing
 pub mod Answers
+pub mod Offers
 pub mod Runs

@@ -1,9 +1,9 @@
 // A packet taken out of the ring.
 ghost use Rattle.std.specs.Prelude.{◌≡◌, ◌≤◌, length};
-ghost use Rattle.mmbi.specs.Interface.{state_of, may_read};
 ghost use Rattle.ring.specs.Numbers.{filled_of};
-ghost use Rattle.ring.specs.Reading.{judged, found_of, output_of};
+ghost use Rattle.ring.specs.Reading.{judged};
 ghost use Rattle.ring.specs.Answers.{found_in};
+ghost use Rattle.ring.specs.Offers.{found_at, output_at};
 
 use crate::number::Pointed;
 use crate::offer::Offered;
@@ -25,22 +25,16 @@ pub enum Found {
 // The packet at the read pointer, copied to the output's front; 11 unless the interface is in normal runtime, or one
 // end alone asks for a reset.
 pub fn read(ring: &[u8], offered: Offered, out: &mut [u8]) -> Result<Found, Refusal>
-    ensures answer { found_in result ≡ found_of 64 ring.now offered.configured
-        (may_read (state_of offered.flags)) offered.pointers.read offered.pointers.write
-        (length out.old) }
-    ensures output { out.new ≡ output_of 64 ring.now offered.configured
-        (may_read (state_of offered.flags)) offered.pointers.read offered.pointers.write out.old }
+    ensures answer { found_in result ≡ found_at 64 ring.now offered (length out.old) }
+    ensures output { out.new ≡ output_at 64 ring.now offered out.old }
 {
     read_within(mctp::LARGEST_BODY, ring, offered, out)
 }
 
 // Reading with the largest body as a number.
 fn read_within(most: usize, ring: &[u8], offered: Offered, out: &mut [u8]) -> Result<Found, Refusal>
-    ensures answer { found_in result ≡ found_of most ring.now offered.configured
-        (may_read (state_of offered.flags)) offered.pointers.read offered.pointers.write
-        (length out.old) }
-    ensures output { out.new ≡ output_of most ring.now offered.configured
-        (may_read (state_of offered.flags)) offered.pointers.read offered.pointers.write out.old }
+    ensures answer { found_in result ≡ found_at most ring.now offered (length out.old) }
+    ensures output { out.new ≡ output_at most ring.now offered out.old }
 {
     let found = find(most, ring, offered, out.len())?;
     if let Found::Packet { size, .. } = found {
@@ -54,8 +48,7 @@ fn read_within(most: usize, ring: &[u8], offered: Offered, out: &mut [u8]) -> Re
 // header don't run over the ring's end.
 #[tactic(auto, using(crate::proofs::Headers::header_straight), unfolding(crate::specs::Reading::found_of))]
 fn find(most: usize, ring: &[u8], offered: Offered, output: usize) -> Result<Found, Refusal>
-    ensures { found_in result ≡ found_of most ring.now offered.configured
-        (may_read (state_of offered.flags)) offered.pointers.read offered.pointers.write output }
+    ensures { found_in result ≡ found_at most ring.now offered output }
 {
     if !number::set_up_right(most, offered.configured, ring.len()) {
         return Err(Refusal::Setup);

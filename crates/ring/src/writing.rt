@@ -1,55 +1,45 @@
 // A packet put into the ring.
-ghost use Rattle.std.specs.Prelude.{◌≡◌, ◌++◌, ◌+◌, ◌≤◌, ◌<◌, length};
-ghost use Rattle.mmbi.specs.Interface.{state_of, may_write};
+ghost use Rattle.std.specs.Prelude.{◌≡◌, ◌+◌, ◌≤◌, ◌<◌, length};
+ghost use Rattle.mctp.specs.Apart.{joined};
 ghost use Rattle.ring.specs.Layout.{padding_for, whole_for, header_for, ring_bytes};
 ghost use Rattle.ring.specs.Round.{stored};
-ghost use Rattle.ring.specs.Writing.{entered_of, written_of};
 ghost use Rattle.ring.specs.Answers.{entered_in};
+ghost use Rattle.ring.specs.Offers.{entered_at, written_at};
 
 use crate::number::Pointed;
 use crate::offer::Offered;
 use crate::{number, round};
-use mctp::Refusal;
+use mctp::{Apart, Refusal};
 use octets::HighFirst;
 
 // A packet put into the ring at the write pointer, which then stands at the answer; 11 unless the interface is in
 // normal runtime.
 pub fn write(ring: &mut [u8], offered: Offered, packet: &[u8]) -> Result<usize, Refusal>
-    ensures answer { entered_in result ≡ entered_of 64 (length ring.old) offered.configured
-        (may_write (state_of offered.flags)) offered.pointers.read offered.pointers.write
-        (length packet.now) }
-    ensures ring { ring.new ≡ written_of 64 ring.old offered.configured
-        (may_write (state_of offered.flags)) offered.pointers.read offered.pointers.write packet.now }
+    ensures answer { entered_in result ≡ entered_at 64 (length ring.old) offered (length packet.now) }
+    ensures ring { ring.new ≡ written_at 64 ring.old offered packet.now }
 {
-    write_apart(mctp::LARGEST_BODY, ring, offered, &[], packet)
+    write_apart(mctp::LARGEST_BODY, ring, offered, Apart::whole(packet))
 }
 
 // A packet whose header and body lie apart, put into the ring at the write pointer, with the largest body as a number.
-// So who cuts a message into packets needs no buffer of a packet to join the two in.
 pub fn write_apart(
     most: usize,
     ring: &mut [u8],
     offered: Offered,
-    header: &[u8],
-    body: &[u8],
+    packet: Apart,
 ) -> Result<usize, Refusal>
-    ensures answer { entered_in result ≡ entered_of most (length ring.old) offered.configured
-        (may_write (state_of offered.flags)) offered.pointers.read offered.pointers.write
-        (length (header.now ++ body.now)) }
-    ensures ring { ring.new ≡ written_of most ring.old offered.configured
-        (may_write (state_of offered.flags)) offered.pointers.read offered.pointers.write
-        (header.now ++ body.now) }
+    ensures answer { entered_in result ≡ entered_at most (length ring.old) offered (length (joined packet.entry)) }
+    ensures ring { ring.new ≡ written_at most ring.old offered (joined packet.entry) }
 {
-    let next = judge(most, ring.len(), offered, header.len() + body.len())?;
-    fill(ring, offered.pointers.write, header, body);
+    let next = judge(most, ring.len(), offered, packet.size())?;
+    fill(ring, offered.pointers.write, packet);
     Ok(next)
 }
 
 // What writing answers, from the packet's size alone; nothing is stored yet.
 #[tactic(auto, using(crate::proofs::Numbers::room_below), unfolding(crate::specs::Writing::entered_of))]
 fn judge(most: usize, lent: usize, offered: Offered, size: usize) -> Result<usize, Refusal>
-    ensures { entered_in result ≡ entered_of most lent offered.configured
-        (may_write (state_of offered.flags)) offered.pointers.read offered.pointers.write size }
+    ensures { entered_in result ≡ entered_at most lent offered size }
 {
     if !number::set_up_right(most, offered.configured, lent) {
         return Err(Refusal::Setup);
@@ -72,24 +62,26 @@ fn judge(most: usize, lent: usize, offered: Offered, size: usize) -> Result<usiz
 // Pointers are multiples of 4, as the length is, so the four bytes of the ring's header don't run over the ring's end;
 // a piece may.
 #[tactic(auto, using(crate::proofs::Numbers::next_below))]
-fn fill(ring: &mut [u8], write: usize, header: &[u8], body: &[u8])
+fn fill(ring: &mut [u8], write: usize, packet: Apart)
     requires { (length ring.old ≤ 65536) × (write + 4 ≤ length ring.old)
-        × (length header.now + length body.now ≤ 250)
-        × (whole_for (length header.now + length body.now) ≤ length ring.old) }
-    ensures { ring.new ≡ stored ring.old write
-        (ring_bytes (header.now ++ body.now)) }
+        × (length packet.header.now + length packet.body.now ≤ 250)
+        × (whole_for (length packet.header.now + length packet.body.now) ≤ length ring.old) }
+    ensures { ring.new ≡ stored ring.old write (ring_bytes (joined packet.entry)) }
 {
-    let size = header.len() + body.len();
+    let size = packet.size();
     let padding = padding_for(size);
     let lent = ring.len();
     octets::lay_word::<HighFirst>(ring, write, header_for(size));
-    round::copy_in(ring, number::next(lent, write, 4), header);
-    round::copy_in(ring, number::next(lent, write, 4 + header.len()), body);
-    let zeros = [0u8; 3];
+    round::copy_in(ring, number::next(lent, write, 4), packet.header);
+    round::copy_in(
+        ring,
+        number::next(lent, write, 4 + packet.header.len()),
+        packet.body,
+    );
     round::copy_in(
         ring,
         number::next(lent, write, 4 + size),
-        &zeros[0..padding],
+        &[0; 3][..padding],
     );
 }
 

@@ -3,3 +3,4 @@ pub mod Ranges
 pub mod Whole
 pub mod Answers
 pub mod Sending
+pub mod Messages

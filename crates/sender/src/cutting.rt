@@ -1,11 +1,13 @@
 // A message cut into packets: how many there are, and packet k as a header and a part of the message.
 ghost use Rattle.std.specs.Prelude.{◌≡◌, ◌++◌, ◌*◌, ◌≤◌, ◌<◌, length, IfOk};
+ghost use Rattle.mctp.specs.Apart.{joined};
 ghost use Rattle.mctp.specs.Refusals.{outcome_number};
-ghost use Rattle.sender.specs.Cutting.{message_right, packet_header, packet_at, count_refusal, count_of, cut_refusal};
+ghost use Rattle.sender.specs.Cutting.{message_right, packet_header, count_refusal, count_of, cut_refusal};
+ghost use Rattle.sender.specs.Messages.{packet_of, cut_refusal_of};
 ghost use Rattle.sender.specs.Answers.{number_counted, packets_counted};
 
-use crate::heading::{Heading, Message, heading_right};
-use mctp::{Header, LARGEST_BODY, Refusal};
+use crate::heading::{Heading, Message};
+use mctp::{Apart, Header, LARGEST_BODY, Refusal};
 
 // How many packets there are of a message.
 pub fn count(message: &[u8]) -> Result<usize, Refusal>
@@ -26,7 +28,7 @@ fn count_within(most: usize, size: usize) -> Result<usize, Refusal>
     if !message_right(size) {
         return Err(Refusal::Size);
     }
-    Ok((size + (most - 1)) / most)
+    Ok(size.div_ceil(most))
 }
 
 fn message_right(size: usize) -> bool
@@ -42,13 +44,24 @@ pub struct Packet<'a> {
     pub body: &'a [u8],
 }
 
+impl Packet<'_> {
+    // As a carrier's writer takes it.
+    pub fn apart(&self) -> Apart<'_>
+        ensures { joined result ≡ self.now.header ++ self.now.body.now }
+    {
+        Apart {
+            header: &self.header,
+            body: self.body,
+        }
+    }
+}
+
 // Packet k of a message: all that is refused before it goes anywhere is refused here.
 #[tactic(auto, using(crate::proofs::Cuts::there), unfolding(crate::specs::Cutting::packet_at))]
 pub fn cut(most: usize, message: Message<'_>, k: usize) -> Result<Packet<'_>, Refusal>
-    ensures number { outcome_number result ≡ cut_refusal most message.entry.heading (length message.entry.bytes.now) k }
+    ensures number { outcome_number result ≡ cut_refusal_of most message.entry k }
     ensures header { IfOk result (λ packet. length packet.header ≡ 4) }
-    ensures packet { IfOk result (λ packet. packet.header ++ packet.body.now
-        ≡ packet_at most message.entry.heading message.entry.bytes.now k) }
+    ensures packet { IfOk result (λ packet. packet.header ++ packet.body.now ≡ packet_of most message.entry k) }
 {
     let size = message.bytes.len();
     may_cut(most, message.heading, size, k)?;
@@ -63,16 +76,13 @@ pub fn cut(most: usize, message: Message<'_>, k: usize) -> Result<Packet<'_>, Re
 fn may_cut(most: usize, heading: Heading, size: usize, k: usize) -> Result<(), Refusal>
     ensures { outcome_number result ≡ cut_refusal most heading size k }
 {
-    if !mctp::body_right(most) || !heading_right(heading) {
+    if !mctp::body_right(most) || !heading.is_right() {
         return Err(Refusal::Setup);
     }
     if !message_right(size) {
         return Err(Refusal::Size);
     }
-    if 1024 <= k {
-        return Err(Refusal::PastEnd);
-    }
-    if size <= k * most {
+    if 1024 <= k || size <= k * most {
         return Err(Refusal::PastEnd);
     }
     Ok(())
@@ -88,7 +98,7 @@ fn packet_header(most: usize, heading: Heading, size: usize, k: usize) -> Header
         version: 1,
         start: k == 0,
         end: size <= k * most + most,
-        sequence: ((heading.first as usize + k) % 4) as u8,
+        sequence: ((usize::from(heading.first) + k) % 4) as u8,
         key: heading.key,
     }
 }

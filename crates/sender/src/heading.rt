@@ -1,4 +1,4 @@
-// The numbers of a message that is sent.
+// What is sent: a message, and the numbers that its packets' headers are made of.
 ghost use Rattle.std.specs.Prelude.{◌≡◌};
 ghost use Rattle.sender.specs.Cutting.{heading_right};
 
@@ -12,20 +12,21 @@ pub struct Heading {
     pub first: u8,
 }
 
+impl Heading {
+    // Whether every number is in its range.
+    pub(crate) fn is_right(self) -> bool
+        ensures { result ≡ heading_right self }
+    {
+        !self.key.destination.is_reserved()
+            && self.key.source.is_endpoint()
+            && self.key.tag <= 7
+            && self.first <= 3
+    }
+}
+
 // A message that is sent: its bytes, and what its packets' headers are made of.
 #[derive(Clone, Copy)]
 pub struct Message<'a> {
     pub bytes: &'a [u8],
     pub heading: Heading,
-}
-
-// Whether every number is in its range.
-pub fn heading_right(heading: Heading) -> bool
-    ensures { result ≡ heading_right heading }
-{
-    let key = heading.key;
-    !key.destination.is_reserved()
-        & key.source.is_endpoint()
-        & (key.tag <= 7)
-        & (heading.first <= 3)
 }

@@ -2,13 +2,13 @@
 // message, and both go where they are to stand. Each call takes what the carrier's writer takes, with the message and k
 // in the packet's place.
 ghost use Rattle.std.specs.Prelude.{◌≡◌, length};
-ghost use Rattle.smbus.specs.Answers.{number_written as numberFramed, size_written};
+ghost use Rattle.smbus.specs.Answers.{number_written as number_framed, size_written};
 ghost use Rattle.pcc.specs.Answers.{number_written};
 ghost use Rattle.ring.specs.Answers.{entered_in};
 ghost use Rattle.sender.specs.Answers.{number_cut, size_cut};
-ghost use Rattle.sender.specs.Sending.{output_refusal, output_size, output_written};
-ghost use Rattle.sender.specs.Sending.{smbus_refusal, smbus_size, smbus_written, pcc_refusal, pcc_written};
-ghost use Rattle.sender.specs.Sending.{ring_entered, ring_written};
+ghost use Rattle.sender.specs.Messages.{output_refusal_of, output_size_of, output_written_of};
+ghost use Rattle.sender.specs.Messages.{smbus_refusal_of, smbus_size_of, smbus_written_of, pcc_refusal_of};
+ghost use Rattle.sender.specs.Messages.{pcc_written_of, ring_entered_of, ring_written_of};
 
 use crate::cutting::cut;
 use crate::heading::Message;
@@ -18,10 +18,9 @@ use ring::Offered;
 // Packet k at the output's front, the rest unchanged: its size. Nothing is written where the answer is a refusal.
 #[tactic(auto, unfolding(crate::specs::Sending::output_refusal, crate::specs::Sending::output_size))]
 pub fn to_output(out: &mut [u8], message: Message, k: usize) -> Result<usize, Refusal>
-    ensures number { number_cut result
-        ≡ output_refusal 64 message.entry.heading message.entry.bytes.now k (length out.old) }
-    ensures size { size_cut result ≡ output_size 64 message.entry.heading message.entry.bytes.now k (length out.old) }
-    ensures output { out.new ≡ output_written 64 message.entry.heading message.entry.bytes.now k out.old }
+    ensures number { number_cut result ≡ output_refusal_of 64 message.entry k (length out.old) }
+    ensures size { size_cut result ≡ output_size_of 64 message.entry k (length out.old) }
+    ensures output { out.new ≡ output_written_of 64 message.entry k out.old }
 {
     let packet = cut(LARGEST_BODY, message, k)?;
     let size = 4 + packet.body.len();
@@ -42,22 +41,12 @@ pub fn to_smbus(
     destination: u8,
     source: u8,
 ) -> Result<usize, Refusal>
-    ensures number { numberFramed result ≡ smbus_refusal 64 message.entry.heading message.entry.bytes.now k
-        (length out.old) destination source }
-    ensures size { size_written result ≡ smbus_size 64 message.entry.heading message.entry.bytes.now k
-        (length out.old) destination source }
-    ensures output { out.new ≡ smbus_written 64 message.entry.heading message.entry.bytes.now k
-        out.old destination source }
+    ensures number { number_framed result ≡ smbus_refusal_of 64 message.entry k (length out.old) destination source }
+    ensures size { size_written result ≡ smbus_size_of 64 message.entry k (length out.old) destination source }
+    ensures output { out.new ≡ smbus_written_of 64 message.entry k out.old destination source }
 {
     let packet = cut(LARGEST_BODY, message, k)?;
-    smbus::write_apart(
-        LARGEST_BODY,
-        out,
-        &packet.header,
-        packet.body,
-        destination,
-        source,
-    )
+    smbus::write_apart(LARGEST_BODY, out, packet.apart(), destination, source)
 }
 
 // Packet k in a region, under its id.
@@ -69,20 +58,11 @@ pub fn to_pcc(
     message: Message,
     k: usize,
 ) -> Result<(), Refusal>
-    ensures number { number_written result
-        ≡ pcc_refusal 64 message.entry.heading message.entry.bytes.now k (length region.old) id }
-    ensures region { region.new
-        ≡ pcc_written 64 message.entry.heading message.entry.bytes.now k region.old id notify }
+    ensures number { number_written result ≡ pcc_refusal_of 64 message.entry k (length region.old) id }
+    ensures region { region.new ≡ pcc_written_of 64 message.entry k region.old id notify }
 {
     let packet = cut(LARGEST_BODY, message, k)?;
-    pcc::write_apart(
-        LARGEST_BODY,
-        region,
-        id,
-        notify,
-        &packet.header,
-        packet.body,
-    )
+    pcc::write_apart(LARGEST_BODY, region, id, notify, packet.apart())
 }
 
 // Packet k in a ring, at the write pointer: the new write pointer.
@@ -93,11 +73,9 @@ pub fn to_ring(
     message: Message,
     k: usize,
 ) -> Result<usize, Refusal>
-    ensures answer { entered_in result ≡ ring_entered 64 message.entry.heading message.entry.bytes.now k
-        (length ring.old) offered.configured offered.flags offered.pointers }
-    ensures ring { ring.new ≡ ring_written 64 message.entry.heading message.entry.bytes.now k
-        ring.old offered.configured offered.flags offered.pointers }
+    ensures answer { entered_in result ≡ ring_entered_of 64 message.entry k (length ring.old) offered }
+    ensures ring { ring.new ≡ ring_written_of 64 message.entry k ring.old offered }
 {
     let packet = cut(LARGEST_BODY, message, k)?;
-    ring::write_apart(LARGEST_BODY, ring, offered, &packet.header, packet.body)
+    ring::write_apart(LARGEST_BODY, ring, offered, packet.apart())
 }

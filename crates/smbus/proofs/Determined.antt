@@ -1,12 +1,12 @@
 -- The contracts of the public calls leave no choice: two results that one allows on the same input are equal.
 -- Assumes nothing.
 use mathlib.Core.Path.{◌≡◌, ap, sym, ◌∙◌}
-use mathlib.Core.List.{◌++◌}
 use native.Mathlib.Omega.{arith}
 use contract.Lifetimes.{Lfts}
 use lib.ListN.{length}
 use Prim.Native.Nat.{ℕ}
 use Rattle.std.proofs.Common.{Result, Ok, Err}
+use Rattle.mctp.specs.Apart.{joined}
 use Rattle.mctp.specs.declared.refusal.Refusal.{Refusal}
 use Rattle.octets.proofs.Choice.{determined}
 use Rattle.mctp.proofs.Refusals.{number_injective, number_positive}
@@ -60,7 +60,7 @@ write_determined κs a r q e f p o = (
   determined p.1.1 o.1.1,
 )
 
-pub write_apart_determined : (κs : Lfts 3) (a r q e f : _) → apart.Post κs a r e → apart.Post κs a q f
+pub write_apart_determined : (κs : Lfts 2) (a r q e f : _) → apart.Post κs a r e → apart.Post κs a q f
     → (r ≡ q) × (e.1.0.now ≡ f.1.0.now)
 write_apart_determined κs a r q e f p o = (
   written_injective r q (determined p.0 o.0) (determined p.1.0 o.1.0),
@@ -68,9 +68,9 @@ write_apart_determined κs a r q e f p o = (
 )
 
 -- A packet written apart, where 64 is the largest body, is the packet written whole: one answer, one output.
-pub apart_is_whole : (κs : Lfts 3) (λs : Lfts 2) (a b r q e f : _) → apart.Post κs a r e → writing.Post λs b q f
-    → a.0 ≡ 64 → a.1.0.now ≡ b.0.now → a.1.1.0.now ++ a.1.1.1.0.now ≡ b.1.0.now
-    → a.1.1.1.1.0 ≡ b.1.1.0 → a.1.1.1.1.1.0 ≡ b.1.1.1.0
+pub apart_is_whole : (κs : Lfts 2) (λs : Lfts 2) (a b r q e f : _) → apart.Post κs a r e → writing.Post λs b q f
+    → a.0 ≡ 64 → a.1.0.now ≡ b.0.now → joined a.1.1.0 ≡ b.1.0.now
+    → a.1.1.1.0 ≡ b.1.1.0 → a.1.1.1.1.0 ≡ b.1.1.1.0
     → (r ≡ q) × (e.1.0.now ≡ f.0.now)
 apart_is_whole κs λs a b r q e f p o most out packet to by = (
   written_injective r q
@@ -86,5 +86,5 @@ pub no_requires : ((κs : Lfts 1) (a : _) → packet.Pre κs a)
     × ((κs : Lfts 1) (a : _) → carrying.Pre κs a)
     × ((κs : Lfts 1) (a : _) → part.Pre κs a)
     × ((κs : Lfts 2) (a : _) → writing.Pre κs a)
-    × ((κs : Lfts 3) (a : _) → apart.Pre κs a)
+    × ((κs : Lfts 2) (a : _) → apart.Pre κs a)
 no_requires = ((λ κs a. tt), (λ κs a. tt), (λ κs a. tt), (λ κs a. tt), (λ κs a. tt), (λ κs a. tt), (λ κs a. tt))

@@ -20,10 +20,9 @@ pub fn read(frame: &[u8], own: u8) -> Result<Packet, Refusal>
 pub fn packet(frame: &[u8], own: u8) -> &[u8]
     ensures { result.now ≡ packet_of 64 frame.now own }
 {
-    if read(frame, own).is_ok() {
-        part(frame)
-    } else {
-        &frame[0..0]
+    match read(frame, own) {
+        Ok(_) => part(frame),
+        Err(_) => &[],
     }
 }
 

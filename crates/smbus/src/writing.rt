@@ -1,12 +1,13 @@
 // Writing a packet as a frame: first whether it may be, by sizes and addresses alone, then the frame itself.
-ghost use Rattle.std.specs.Prelude.{◌≡◌, ◌++◌, ◌+◌, ◌≤◌, OnOk, length};
+ghost use Rattle.std.specs.Prelude.{◌≡◌, ◌+◌, ◌≤◌, OnOk, length};
 ghost use Rattle.octets.specs.Bytes.{fronted};
+ghost use Rattle.mctp.specs.Apart.{joined};
 ghost use Rattle.mctp.specs.Refusals.{outcome_number};
 ghost use Rattle.smbus.specs.Layout.{frame_of};
 ghost use Rattle.smbus.specs.Writing.{write_refusal, size_of, written_of};
 ghost use Rattle.smbus.specs.Answers.{number_written, size_written};
 
-use mctp::{LARGEST_BODY, Refusal};
+use mctp::{Apart, LARGEST_BODY, Refusal};
 
 // The frame at the front of the output, the rest unchanged; nothing is written where the answer is a refusal.
 pub fn write(out: &mut [u8], packet: &[u8], destination: u8, source: u8) -> Result<usize, Refusal>
@@ -17,30 +18,27 @@ pub fn write(out: &mut [u8], packet: &[u8], destination: u8, source: u8) -> Resu
     ensures output { out.new
         ≡ written_of 64 out.old packet.now destination source }
 {
-    write_apart(LARGEST_BODY, out, &[], packet, destination, source)
+    write_apart(LARGEST_BODY, out, Apart::whole(packet), destination, source)
 }
 
-// A packet whose header and body lie apart, with the largest body as a number: who cuts a message needs no buffer of a
-// packet.
+// A packet whose header and body lie apart, with the largest body as a number.
 #[tactic(auto, unfolding(crate::specs::Writing::size_of, crate::specs::Writing::written_of))]
 pub fn write_apart(
     most: usize,
     out: &mut [u8],
-    header: &[u8],
-    body: &[u8],
+    packet: Apart,
     destination: u8,
     source: u8,
 ) -> Result<usize, Refusal>
     ensures number { number_written result ≡ write_refusal most (length out.old)
-        (length (header.now ++ body.now)) destination source }
+        (length (joined packet.entry)) destination source }
     ensures size { size_written result ≡ size_of most (length out.old)
-        (length (header.now ++ body.now)) destination source }
-    ensures output { out.new
-        ≡ written_of most out.old (header.now ++ body.now) destination source }
+        (length (joined packet.entry)) destination source }
+    ensures output { out.new ≡ written_of most out.old (joined packet.entry) destination source }
 {
-    let size = header.len() + body.len();
+    let size = packet.size();
     may_write(most, out.len(), size, destination, source)?;
-    fill(out, header, body, destination, source);
+    fill(out, packet, destination, source);
     Ok(5 + size)
 }
 
@@ -70,16 +68,15 @@ fn may_write(
 
 // The head, the packet in its two pieces, and the PEC of all three: of the bytes as they came, since those that were
 // just stored can't be read as words without waiting for them.
-fn fill(out: &mut [u8], header: &[u8], body: &[u8], destination: u8, source: u8)
-    requires { (destination ≤ 127) × (source ≤ 127) × (length header.now + length body.now ≤ 250)
-        × (5 + (length header.now + length body.now) ≤ length out.old) }
-    ensures { out.new ≡ fronted out.old
-        (frame_of destination source (header.now ++ body.now)) }
+fn fill(out: &mut [u8], packet: Apart, destination: u8, source: u8)
+    requires { (destination ≤ 127) × (source ≤ 127) × (length packet.header.now + length packet.body.now ≤ 250)
+        × (5 + (length packet.header.now + length packet.body.now) ≤ length out.old) }
+    ensures { out.new ≡ fronted out.old (frame_of destination source (joined packet.entry)) }
 {
-    let size = header.len() + body.len();
+    let size = packet.size();
     let head = [destination * 2, 0x0F, (1 + size) as u8, source * 2 + 1];
     octets::lay(out, 0, &head);
-    octets::lay(out, 4, header);
-    octets::lay(out, 4 + header.len(), body);
-    out[4 + size] = pec::pec_apart(&head, header, body);
+    octets::lay(out, 4, packet.header);
+    octets::lay(out, 4 + packet.header.len(), packet.body);
+    out[4 + size] = pec::pec_apart(&head, packet.header, packet.body);
 }

@@ -7,4 +7,5 @@ use Rattle.pcc.proofs.writing.fill.Goals as goal
 pub returns : goal.returns
 returns c =
     let a = c.args in
-    let whole = filled a.region.now a.header.now a.body.now a.id a.notify (omega arith) in search rules
+    let p = a.packet in
+    let whole = filled a.region.now p.header.now p.body.now a.id a.notify (omega arith) in search rules

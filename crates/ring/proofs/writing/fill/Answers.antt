@@ -3,8 +3,7 @@
 -- Assumes nothing.
 use mathlib.Core.Path.{◌≡◌, refl, ◌∙◌}
 use mathlib.Core.List.{List, [], ◌∷◌, ◌++◌, append_assoc}
-use Prim.Native.Nat.{ℕ, zero, suc, ◌+◌, ◌-◌, ◌≤◌, ◌<◌}
-use native.Mathlib.Nat.{sub-zero}
+use Prim.Native.Nat.{ℕ, zero, suc, ◌+◌, ◌≤◌, ◌<◌}
 use native.Mathlib.Omega.{arith}
 use lib.ListN.{length, take, replicate, length-append, length-replicate}
 use Rattle.octets.specs.Bytes.{laid}
@@ -33,31 +32,32 @@ module _ (ring : List ℕ) (p : ℕ) (straight : p + 4 ≤ length ring) where
   piece a b f e g fits h = rw (h, f, g, ← e) (stored_stored ring p (omega arith) a b (omega arith))
 
   module _ (header body : List ℕ) (fits : whole_for (length header + length body) ≤ length ring) where
-    steps : {l0 l1 l2 l3 : List ℕ} {word padding q1 q2 q3 : ℕ} → word ≡ header_for (length header + length body)
-        → padding ≡ padding_for (length header + length body) → q1 ≡ next_of (length ring) p 4
+    steps : {l0 l1 l2 l3 : List ℕ} {size word padding q1 q2 q3 : ℕ} → size ≡ length header + length body
+        → word ≡ header_for size → padding ≡ padding_for size → q1 ≡ next_of (length ring) p 4
         → q2 ≡ next_of (length ring) p (4 + length header)
-        → q3 ≡ next_of (length ring) p (4 + (length header + length body))
+        → q3 ≡ next_of (length ring) p (4 + size)
         → l0 ≡ laid ring p (word_bytes high_first word) → l1 ≡ stored l0 q1 header → l2 ≡ stored l1 q2 body
-        → l3 ≡ stored l2 q3 (take (padding - 0) zeros) → l3 ≡ stored ring p (ring_bytes (header ++ body))
+        → l3 ≡ stored l2 q3 (take padding zeros) → l3 ≡ stored ring p (ring_bytes (header ++ body))
     unfolding ring_bytes
-    steps {word = word} {padding = padding} ew ep e1 e2 e3 f0 f1 f2 f3 =
+    steps {size = size} {word = word} {padding = padding} es ew ep e1 e2 e3 f0 f1 f2 f3 =
         let w = word_bytes high_first word in
         let pad : List ℕ = replicate padding 0 in
         let four : length w ≡ 4 = word-length high_first word in
         let two : length (w ++ header) ≡ 4 + length header = simp length-append (omega arith) in
-        let three : length (w ++ header ++ body) ≡ 4 + (length header + length body) =
+        let three : length (w ++ header ++ body) ≡ 4 + size =
         simp length-append (omega arith) in
         let long : length pad ≡ padding = length-replicate {A = ℕ} padding 0 in
-        let front : take (padding - 0) zeros ≡ pad = rw sub-zero (zeros_front padding (omega arith)) in
+        let front : take padding zeros ≡ pad = zeros_front padding (omega arith) in
         let s0 = f0 ∙ stored_straight ring p w (omega arith) (omega arith) in
         let s1 = piece w header s0 four e1 (omega arith) f1 in
         let s2 = piece (w ++ header) body s1 two e2 (omega arith) f2 in
         let s3 = piece (w ++ header ++ body) pad s2 three e3 (omega arith) (rw front at f3) in
-        rw (length-append header body, ← ew, ← ep) (s3 ∙ simp append_assoc)
+        rw (length-append header body, ← es, ← ew, ← ep) (s3 ∙ simp append_assoc)
 
 pub returns : goal.returns
 returns c =
-    steps c.args.ring.now c.args.write c.requires.1 c.args.header.now c.args.body.now c.requires.3
+    steps c.args.ring.now c.args.write c.requires.1 c.args.packet.header.now c.args.packet.body.now c.requires.3
+    c.size-size.ensures.pieces
     c.header_for.ensures c.padding_for-padding.ensures c.next.ensures c.next-2.ensures
     c.next-3.ensures c.lay_word.ensures c.copy_in.ensures c.copy_in-2.ensures
     c.copy_in-3.ensures

@@ -6,4 +6,5 @@ use Rattle.ring.proofs.Writings.{good, good_stored}
 use Rattle.ring.proofs.writing.write_apart.Goals as goal
 
 pub fill-requires : goal.fill-requires
-fill-requires c = good_stored _ _ _ _ _ _ _ _ (good _ _ _ _ _ _ _ _ (sym c.in_ok-next.ensures))
+fill-requires c =
+    rw (← c.size.ensures.pieces) (good_stored _ _ _ _ _ _ _ _ (good _ _ _ _ _ _ _ _ (sym c.in_ok-next.ensures)))

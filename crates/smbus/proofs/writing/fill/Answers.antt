@@ -7,9 +7,11 @@ use Rattle.smbus.proofs.writing.fill.Goals as goal
 pub bounds-out-size : goal.bounds-out-size
 bounds-out-size c =
     let a = c.args in
-    let kept = copied-length a.destination a.source a.out.now a.header.now a.body.now (omega arith) in search rules
+    let p = a.packet in
+    let kept = copied-length a.destination a.source a.out.now p.header.now p.body.now (omega arith) in search rules
 
 pub returns : goal.returns
 returns c =
     let a = c.args in
-    let whole = filled a.destination a.source a.out.now a.header.now a.body.now (omega arith) in search rules
+    let p = a.packet in
+    let whole = filled a.destination a.source a.out.now p.header.now p.body.now (omega arith) in search rules
