@@ -1,4 +1,4 @@
--- `sender::sending::to_output` meets its contract: header and body laid one behind the other are packet k.
+-- `sender::sending::output_within` meets its contract: header and body laid one behind the other are packet k.
 -- Assumes nothing.
 use mathlib.Core.Path.{sym, ap, ◌∙◌}
 use mathlib.Core.List.{List}
@@ -9,7 +9,7 @@ use Rattle.octets.specs.Bytes.{laid}
 use Rattle.std.proofs.lemmas.Grind.{common_steps}
 use Rattle.sender.specs.Sending.{output_refusal, output_written}
 use Rattle.sender.proofs.Sendings.{laid_pieces, by_output}
-use Rattle.sender.proofs.sending.to_output.Goals as goal
+use Rattle.sender.proofs.sending.output_within.Goals as goal
 
 pub returns-clause-output : goal.returns-clause-output
 returns-clause-output c =

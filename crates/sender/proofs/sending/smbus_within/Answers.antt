@@ -1,10 +1,10 @@
--- `sender::sending::to_smbus` meets its contract: the frame's length is the carrier's own of packet k, and 0 where there
+-- `sender::sending::smbus_within` meets its contract: the frame's length is the carrier's own of packet k, and 0 where there
 -- is none.
 -- Assumes nothing.
 use Rattle.std.proofs.Common.{arith}
 use Rattle.std.proofs.lemmas.Grind.{common_steps}
 use Rattle.sender.specs.Sending.{smbus_size}
-use Rattle.sender.proofs.sending.to_smbus.Goals as goal
+use Rattle.sender.proofs.sending.smbus_within.Goals as goal
 
 pub returns-clause-size : goal.returns-clause-size
 unfolding smbus_size
