@@ -11,6 +11,11 @@ const NEXT: u8 = 0x18;
 
 pub fn tell(page: &mut Page) {
     page.section("Old half-messages at EID 9, by a count of milliseconds");
+    tell_limits(page);
+    tell_packets(page);
+}
+
+fn tell_limits(page: &mut Page) {
     for (words, limit) in [
         ("limit 0: ", 0),
         ("limit 1: ", 1),
@@ -19,6 +24,9 @@ pub fn tell(page: &mut Page) {
     ] {
         page.line(words, done(slots::set_up(Eid(9), limit).outcome));
     }
+}
+
+fn tell_packets(page: &mut Page) {
     for (words, start, byte, time) in [
         (
             "limit 1000, start at 0, next packet at 1000: ",
