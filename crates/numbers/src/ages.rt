@@ -1,5 +1,5 @@
 // How long a slot waits: limits at set-up, and a start with one packet more.
-use crate::answers::{Message, answered, done};
+use crate::answers::{Progress, answered, done};
 use crate::packets::{MEMORY, fresh, small};
 use mctp::Eid;
 use told::{Answer, Page};
@@ -82,7 +82,7 @@ fn tell_packets(page: &mut Page) {
 }
 
 // The answer to the second packet.
-fn behind(start: u32, byte: u8, time: u32) -> Answer<Message> {
+fn behind(start: u32, byte: u8, time: u32) -> Answer<Progress> {
     let mut memory = MEMORY;
     let begun = receiver::give(fresh(), &mut memory, &small(START), start);
     answered(receiver::give(begun.receiver, &mut memory, &small(byte), time).answer)
