@@ -72,7 +72,7 @@ impl Bench {
         let end = self.held + came;
         let read = self.drain(end);
         self.held = transcript::to_front(&mut self.input, read, end);
-        Ok(self.sent.is_ok() & (0 < came))
+        Ok(self.sent.is_ok() && 0 < came)
     }
 
     // Reads once behind the bytes held: how many came.
@@ -98,8 +98,8 @@ impl Bench {
         }
     }
 
-    // Takes a chunk of the input from `from` up to `end` and sends its lines: how many bytes it took. Behind a write that
-    // failed nothing is sent, and the records are taken all the same.
+    // Takes a chunk of the input from `from` up to `end` and sends its lines: how many bytes it took. Behind a write
+    // that failed nothing is sent, and the records are taken all the same.
     fn chunk(&mut self, from: usize, end: usize) -> usize
         requires { (from ≤ end) × (end ≤ length self.old.input) }
         ensures { Takes self.old (drop from (take end self.old.input)) result self.new }
@@ -111,9 +111,8 @@ impl Bench {
             &bytes[from..],
             &mut self.output,
         );
-        let written = taken.written;
         self.state = taken.state;
-        self.sent = sending::send(self.rt, self.sent, &self.output[..written]);
+        self.sent = sending::send(self.rt, self.sent, &self.output[..taken.written]);
         taken.read
     }
 

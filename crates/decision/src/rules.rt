@@ -25,20 +25,20 @@ pub enum Plan {
 }
 
 #[tactic(auto, unfolding(crate::specs::Rules::ruled))]
-pub fn rule(receiver: Receiver, header: Header, body: u8) -> Plan
-    ensures { planned result ≡ ruled receiver.slots header body }
+pub fn rule(receiver: Receiver, header: Header, size: u8) -> Plan
+    ensures { planned result ≡ ruled receiver.slots header size }
 {
     if header.start {
-        return on_start(receiver, header, body);
+        return on_start(receiver, header, size);
     }
-    on_follow(receiver, header, body)
+    on_follow(receiver, header, size)
 }
 
 #[tactic(auto, unfolding(crate::specs::Rules::on_start))]
-fn on_start(receiver: Receiver, header: Header, body: u8) -> Plan
-    ensures { planned result ≡ on_start receiver.slots header body }
+fn on_start(receiver: Receiver, header: Header, size: u8) -> Plan
+    ensures { planned result ≡ on_start receiver.slots header size }
 {
-    let then = state_after(header, body, u16::from(body));
+    let then = state_after(header, size, u16::from(size));
     if let Some(slot) = slots::slot_of(receiver, header.key) {
         return Plan::Put {
             slot,
@@ -59,8 +59,8 @@ fn on_start(receiver: Receiver, header: Header, body: u8) -> Plan
 }
 
 #[tactic(auto, unfolding(crate::specs::Rules::on_follow))]
-fn on_follow(receiver: Receiver, header: Header, body: u8) -> Plan
-    ensures { planned result ≡ on_follow receiver.slots header body }
+fn on_follow(receiver: Receiver, header: Header, size: u8) -> Plan
+    ensures { planned result ≡ on_follow receiver.slots header size }
 {
     if let Some(slot) = slots::slot_of(receiver, header.key)
         && let SlotState::Gathering {
@@ -70,14 +70,14 @@ fn on_follow(receiver: Receiver, header: Header, body: u8) -> Plan
             ..
         } = slots::state_at(receiver, usize::from(slot))
     {
-        return gather(slot, sequence, unit, held, header, body);
+        return gather(slot, sequence, unit, held, header, size);
     }
     Plan::Refuse(Refusal::NoStart)
 }
 
 #[tactic(auto, unfolding(crate::specs::Rules::gathered))]
-fn gather(slot: u8, sequence: u8, unit: u8, held: u16, header: Header, body: u8) -> Plan
-    ensures { planned result ≡ gathered slot sequence unit held header body }
+fn gather(slot: u8, sequence: u8, unit: u8, held: u16, header: Header, size: u8) -> Plan
+    ensures { planned result ≡ gathered slot sequence unit held header size }
 {
     if u32::from(header.sequence) != (u32::from(sequence) + 1) % 4 {
         return Plan::Release {
@@ -85,13 +85,13 @@ fn gather(slot: u8, sequence: u8, unit: u8, held: u16, header: Header, body: u8)
             refusal: Refusal::Sequence,
         };
     }
-    if !unit_right(header.end, unit, body) {
+    if !unit_right(header.end, unit, size) {
         return Plan::Release {
             slot,
             refusal: Refusal::Unit,
         };
     }
-    let total = u32::from(held) + u32::from(body);
+    let total = u32::from(held) + u32::from(size);
     if 1024 < total {
         return Plan::Release {
             slot,
@@ -106,10 +106,10 @@ fn gather(slot: u8, sequence: u8, unit: u8, held: u16, header: Header, body: u8)
     }
 }
 
-fn unit_right(end: bool, unit: u8, body: u8) -> bool
-    ensures { result ≡ unit_right end unit body }
+fn unit_right(end: bool, unit: u8, size: u8) -> bool
+    ensures { result ≡ unit_right end unit size }
 {
-    if end { body <= unit } else { body == unit }
+    if end { size <= unit } else { size == unit }
 }
 
 #[tactic(auto, unfolding(crate::specs::Rules::after))]

@@ -235,9 +235,9 @@ written_ring_packet_is_the_layout ring configured running read write p next e =
 -- stand between; held is the sum of the bodies so far, the message is the bodies joined. The counts may wrap on the
 -- way.
 pub messages_are_put_together : (r : Receiver) (m : List ℕ) (first_at : ℕ) (first : List ℕ) (items : List Item)
-    (finalAt : ℕ) (final : List ℕ) (t : OneMessage 64 r m first_at first items finalAt final)
+    (final_at : ℕ) (final : List ℕ) (t : OneMessage 64 r m first_at first items final_at final)
     → Accepted (expired first_at r) first items final
-    (run 64 r m (give first_at first ∷ (calls_of items ++ (give finalAt final ∷ []))))
+    (run 64 r m (give first_at first ∷ (calls_of items ++ (give final_at final ∷ []))))
     (run 64 (step_of 64 first_at r m first).receiver (step_of 64 first_at r m first).memory (calls_of items))
     (slot_for (expired first_at r).slots (key_of first))
 messages_are_put_together = acceptance 64

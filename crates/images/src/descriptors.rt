@@ -27,42 +27,50 @@ pub fn tell(page: &mut Page) {
         read(512, TO_HOST, 16, 128),
     );
     windows::tell_areas(page);
-    page.line(
-        "descriptor in a window of 63 bytes: ",
-        read(63, TO_HOST, 16, 128),
-    );
-    page.line(
-        "descriptor in a window of 511 bytes, which cuts the second ring: ",
-        read(511, TO_HOST, 16, 128),
-    );
-    page.line(
-        "descriptor in a window of 65536 bytes: ",
-        read(65536, TO_HOST, 16, 128),
-    );
-    page.line(
-        "descriptor with the ring to the host of 131200 bytes, 00 02 00 80, in a window of 65536 bytes: ",
-        read(65536, TO_HOST, 16, 131200),
-    );
+    for (words, answer) in [
+        (
+            "descriptor in a window of 63 bytes: ",
+            read(63, TO_HOST, 16, 128),
+        ),
+        (
+            "descriptor in a window of 511 bytes, which cuts the second ring: ",
+            read(511, TO_HOST, 16, 128),
+        ),
+        (
+            "descriptor in a window of 65536 bytes: ",
+            read(65536, TO_HOST, 16, 128),
+        ),
+        (
+            "descriptor with the ring to the host of 131200 bytes, 00 02 00 80, in a window of 65536 bytes: ",
+            read(65536, TO_HOST, 16, 131200),
+        ),
+    ] {
+        page.line(words, answer);
+    }
     tell_far(page);
 }
 
 fn tell_far(page: &mut Page) {
-    page.line(
-        "descriptor with the ring to the host at base 536870911, length 65536, in a window of 512 bytes: ",
-        read(512, TO_HOST, FAR, 65536),
-    );
-    page.line(
-        "descriptor with the ring to the host at base 536870911, length 65536, in a window of 65536 bytes: ",
-        read(65536, TO_HOST, FAR, 65536),
-    );
-    page.line(
-        "descriptor with the ring to the controller at base 536870911, length 65536, in a window of 512 bytes: ",
-        read(512, TO_CONTROLLER, FAR, 65536),
-    );
-    page.line(
-        "descriptor with the ring to the controller at base 536870911, length 65536, in a window of 65536 bytes: ",
-        read(65536, TO_CONTROLLER, FAR, 65536),
-    );
+    for (words, answer) in [
+        (
+            "descriptor with the ring to the host at base 536870911, length 65536, in a window of 512 bytes: ",
+            read(512, TO_HOST, FAR, 65536),
+        ),
+        (
+            "descriptor with the ring to the host at base 536870911, length 65536, in a window of 65536 bytes: ",
+            read(65536, TO_HOST, FAR, 65536),
+        ),
+        (
+            "descriptor with the ring to the controller at base 536870911, length 65536, in a window of 512 bytes: ",
+            read(512, TO_CONTROLLER, FAR, 65536),
+        ),
+        (
+            "descriptor with the ring to the controller at base 536870911, length 65536, in a window of 65536 bytes: ",
+            read(65536, TO_CONTROLLER, FAR, 65536),
+        ),
+    ] {
+        page.line(words, answer);
+    }
 }
 
 // What is read where so many bytes are lent, and the ring whose base stands at a byte has this base and this length.

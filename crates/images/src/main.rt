@@ -1,4 +1,5 @@
-// The carriers' byte images, shown byte for byte and read back. All but the descriptor are written by the proved calls.
+// The carriers' byte images, shown byte for byte and read back. The proved calls write all but the descriptor and the
+// single bits and bytes of the words in `words::tell_bits`.
 #![tactic(auto)]
 
 mod bytes;

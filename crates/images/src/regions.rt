@@ -2,7 +2,6 @@
 use crate::ORDER;
 use crate::bytes::Bytes;
 use mctp::Refusal;
-use pcc::Packet;
 use told::{Answer, Page, PccPacket};
 
 pub fn tell(page: &mut Page) {
@@ -28,6 +27,5 @@ pub fn tell(page: &mut Page) {
 }
 
 fn read(region: &[u8], id: u32) -> Result<PccPacket, Refusal> {
-    let Packet { size, notify } = pcc::read(region, id)?;
-    Ok(PccPacket { size, notify })
+    pcc::read(region, id).map(PccPacket)
 }

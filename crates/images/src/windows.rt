@@ -109,6 +109,18 @@ fn bytes_of(which: Area) -> Result<Held, Refusal> {
     Ok(Held { window, which })
 }
 
+// The pointers that stand in the words.
+#[derive(Drop)]
+pub struct FourPointers(pub Interface);
+
+impl fmt::Display for FourPointers {
+    fn fmt<W: fmt::Write>(&self, f: &mut fmt::Formatter<W>) -> fmt::Result {
+        let Interface { b2h, h2b, .. } = self.0;
+        write!(f, "B2H read {} write {}", b2h.read, b2h.write)?;
+        write!(f, ", H2B read {} write {}", h2b.read, h2b.write)
+    }
+}
+
 // What is read back of the words.
 #[derive(Drop)]
 struct ReadBack(Interface);
@@ -116,12 +128,12 @@ struct ReadBack(Interface);
 impl fmt::Display for ReadBack {
     fn fmt<W: fmt::Write>(&self, f: &mut fmt::Formatter<W>) -> fmt::Result {
         let seen = self.0;
-        match seen.flags.state() {
-            InterfaceState::NormalRuntime => write!(f, "normal runtime")?,
-            _ => write!(f, "not in normal runtime")?,
+        if seen.flags.state() == InterfaceState::NormalRuntime {
+            f.write_str("normal runtime, ")?;
+        } else {
+            f.write_str("not in normal runtime, ")?;
         }
-        write!(f, ", B2H read {} write {}", seen.b2h.read, seen.b2h.write)?;
-        write!(f, ", H2B read {} write {}", seen.h2b.read, seen.h2b.write)?;
+        FourPointers(seen).fmt(f)?;
         if seen.host_ready {
             write!(f, ", host ready")?;
         }

@@ -1,6 +1,6 @@
 // The words of Host_ROS (byte 64) and Host_RWS (byte 72) one bit at a time, and what a store answers and leaves there.
 use crate::bytes::Bytes;
-use crate::windows::Window;
+use crate::windows::{FourPointers, Window};
 use mctp::Refusal;
 use mmbi::Word;
 use std::fmt;
@@ -91,23 +91,11 @@ fn with_bits(at: u8, bits: u8) -> Result<Flagged, Refusal> {
     Ok(Flagged(window::interface_of(&window.bytes, window.c)))
 }
 
-// The pointers that stand in the words.
-#[derive(Drop)]
-struct Pointed(Interface);
-
-impl fmt::Display for Pointed {
-    fn fmt<W: fmt::Write>(&self, f: &mut fmt::Formatter<W>) -> fmt::Result {
-        let Interface { b2h, h2b, .. } = self.0;
-        write!(f, "B2H read {} write {}", b2h.read, b2h.write)?;
-        write!(f, ", H2B read {} write {}", h2b.read, h2b.write)
-    }
-}
-
 // A window in which the words are the bytes 1 to 16.
-fn with_bytes() -> Result<Pointed, Refusal> {
+fn with_bytes() -> Result<FourPointers, Refusal> {
     let bytes = [1, 2, 3, 4, 5, 6, 7, 8, 9, 10, 11, 12, 13, 14, 15, 16];
     let window = Window::with(64, &bytes)?;
-    Ok(Pointed(window::interface_of(&window.bytes, window.c)))
+    Ok(FourPointers(window::interface_of(&window.bytes, window.c)))
 }
 
 // What a store answered, and the window behind it.

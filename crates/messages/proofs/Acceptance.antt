@@ -87,8 +87,8 @@ module _ (most : ℕ) (k : Key) (i unit : ℕ) where
       middles_held (called most r m (free j)).receiver (called most r m (free j)).memory since last sofar items
       (between_gathers most r m k i since last unit sofar G (free j) M.0) M.1
 
-module _ (most : ℕ) (r : Receiver) (m : List ℕ) (first_at : ℕ) (first : List ℕ) (items : List Item) (finalAt : ℕ)
-    (final : List ℕ) (T : OneMessage most r m first_at first items finalAt final) where
+module _ (most : ℕ) (r : Receiver) (m : List ℕ) (first_at : ℕ) (first : List ℕ) (items : List Item) (final_at : ℕ)
+    (final : List ℕ) (T : OneMessage most r m first_at first items final_at final) where
   -- the slot, the state after the first packet, and what the middles leave
   abbrev i : ℕ
   i = slot_for (expired first_at r).slots (key_of first)
@@ -100,7 +100,7 @@ module _ (most : ℕ) (r : Receiver) (m : List ℕ) (first_at : ℕ) (first : Li
   middle = run most begun.receiver begun.memory (calls_of items)
 
   abbrev ended : Left
-  ended = step_of most finalAt middle.receiver middle.memory final
+  ended = step_of most final_at middle.receiver middle.memory final
 
   first_gathers : Gathers most begun.receiver begun.memory (key_of first) i first_at (sequence_of first)
       (length (body_of first)) (body_of first)
@@ -121,40 +121,40 @@ module _ (most : ℕ) (r : Receiver) (m : List ℕ) (first_at : ℕ) (first : Li
       subst (λ (s : Setup). Follows most s (key_of first) (last_of (sequence_of first) items) (length (body_of first))
       (length (body_of first ++ bodies_of items)) final) (sym same_setup) T.follows
 
-  in_time : Young middle.receiver.setup finalAt (since_of first_at items)
-  in_time = subst (λ (s : Setup). Young s finalAt (since_of first_at items)) (sym same_setup) T.in_time
+  in_time : Young middle.receiver.setup final_at (since_of first_at items)
+  in_time = subst (λ (s : Setup). Young s final_at (since_of first_at items)) (sym same_setup) T.in_time
 
-  right_then : right_state most (expired finalAt middle.receiver) ≡ true
-  right_then = expired_right finalAt middle.receiver most gathered.right
+  right_then : right_state most (expired final_at middle.receiver) ≡ true
+  right_then = expired_right final_at middle.receiver most gathered.right
 
   last_step : ended
       ≡ record {
         said = done i (length (body_of first ++ bodies_of items) + length (body_of final)) false;
-        receiver = with_done (with_slot (with_offered (expired finalAt middle.receiver)) i free_slot);
+        receiver = with_done (with_slot (with_offered (expired final_at middle.receiver)) i free_slot);
         memory = laid middle.memory (1024 * i + length (body_of first ++ bodies_of items)) (body_of final);
       }
   last_step =
-      end_step most finalAt middle.receiver middle.memory (key_of first) i _ _ _ _ gathered in_time final follows
+      end_step most final_at middle.receiver middle.memory (key_of first) i _ _ _ _ gathered in_time final follows
       T.last
 
   joined_message : message ended.memory i (length (body_of first ++ bodies_of items) + length (body_of final))
       ≡ (body_of first ++ bodies_of items) ++ body_of final
   joined_message =
-      end_message most finalAt middle.receiver middle.memory
+      end_message most final_at middle.receiver middle.memory
       (key_of first) i _ _ _ _ gathered in_time final follows
       T.last
 
   -- first, middles, last
-  whole : run most r m (give first_at first ∷ (calls_of items ++ (give finalAt final ∷ [])))
+  whole : run most r m (give first_at first ∷ (calls_of items ++ (give final_at final ∷ [])))
       ≡ joined (called most r m (give first_at first))
-      (joined middle (run most middle.receiver middle.memory (give finalAt final ∷ [])))
+      (joined middle (run most middle.receiver middle.memory (give final_at final ∷ [])))
   unfolding run
   whole =
       ap (joined (called most r m (give first_at first)))
-      (run-append most begun.receiver begun.memory (calls_of items) (give finalAt final ∷ []))
+      (run-append most begun.receiver begun.memory (calls_of items) (give final_at final ∷ []))
 
   pub acceptance : Accepted (expired first_at r) first items final
-      (run most r m (give first_at first ∷ (calls_of items ++ (give finalAt final ∷ [])))) middle i
+      (run most r m (give first_at first ∷ (calls_of items ++ (give final_at final ∷ [])))) middle i
   unfolding run
   acceptance =
       let start = start_held most first_at r m first T.state T.memory T.starts T.room T.more in
@@ -175,8 +175,8 @@ module _ (most : ℕ) (r : Receiver) (m : List ℕ) (first_at : ℕ) (first : Li
         slot_free =
             ap (λ (w : Ran). slot_at w.receiver.slots i) whole
             ∙ ap (λ (l : Left). slot_at l.receiver.slots i) last_step
-            ∙ slot_same (expired finalAt middle.receiver).slots i free_slot
-            (omega (arith, gathered.slot, (right_of most (expired finalAt middle.receiver) right_then).four));
+            ∙ slot_same (expired final_at middle.receiver).slots i free_slot
+            (omega (arith, gathered.slot, (right_of most (expired final_at middle.receiver) right_then).four));
       }
 
 -- a message of one packet: done at once, with its body, and the slot is free

@@ -114,7 +114,7 @@ Middles most k slot r m since last unit n (between c ∷ items) =
 -- longer", with at most 1,024 bytes in all, each no later behind the one before it than the limit, from a right state
 -- in which, once its old slots are freed, the key has a slot or a slot is free
 pub record OneMessage (most : ℕ) (r : Receiver) (m : List ℕ) (first_at : ℕ) (first : List ℕ) (items : List Item)
-    (finalAt : ℕ) (final : List ℕ) : Type 0 where
+    (final_at : ℕ) (final : List ℕ) : Type 0 where
   pub state : right_state most r ≡ true
   pub memory : length m ≡ 4096
   pub room : slot_for (expired first_at r).slots (key_of first) < 4
@@ -123,7 +123,7 @@ pub record OneMessage (most : ℕ) (r : Receiver) (m : List ℕ) (first_at : ℕ
   pub middles : Middles most (key_of first) (slot_for (expired first_at r).slots (key_of first))
       (called most r m (give first_at first)).receiver (called most r m (give first_at first)).memory first_at
       (sequence_of first) (length (body_of first)) (length (body_of first)) items
-  pub in_time : Young r.setup finalAt (since_of first_at items)
+  pub in_time : Young r.setup final_at (since_of first_at items)
   pub follows : Follows most r.setup (key_of first) (last_of (sequence_of first) items) (length (body_of first))
       (length (body_of first ++ bodies_of items)) final
   pub last : end_of final ≡ true

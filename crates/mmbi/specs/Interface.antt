@@ -33,8 +33,8 @@ row false false true true = Unexpected
 
 -- the flags as a number's digits are read: B_UP, B_RST, H_UP, H_RST
 abbrev pub flags_of : Bool → Bool → Bool → Bool → Flags
-flags_of bUp bRst hUp hRst =
-    record { controller_up = bUp; controller_reset = bRst; host_up = hUp; host_reset = hRst }
+flags_of b_up b_rst h_up h_rst =
+    record { controller_up = b_up; controller_reset = b_rst; host_up = h_up; host_reset = h_rst }
 
 -- "1010 normal runtime; 1011 reset asked by host; 1110 reset asked by controller"
 abbrev pub normal_runtime : Flags

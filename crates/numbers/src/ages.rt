@@ -1,5 +1,5 @@
 // How long a slot waits: limits at set-up, and a start with one packet more.
-use crate::answers::{Message, answered, done};
+use crate::answers::{Progress, answered, done};
 use crate::packets::{MEMORY, fresh, small};
 use mctp::Eid;
 use told::{Answer, Page};
@@ -11,6 +11,11 @@ const NEXT: u8 = 0x18;
 
 pub fn tell(page: &mut Page) {
     page.section("Old half-messages at EID 9, by a count of milliseconds");
+    tell_limits(page);
+    tell_packets(page);
+}
+
+fn tell_limits(page: &mut Page) {
     for (words, limit) in [
         ("limit 0: ", 0),
         ("limit 1: ", 1),
@@ -19,6 +24,9 @@ pub fn tell(page: &mut Page) {
     ] {
         page.line(words, done(slots::set_up(Eid(9), limit).outcome));
     }
+}
+
+fn tell_packets(page: &mut Page) {
     for (words, start, byte, time) in [
         (
             "limit 1000, start at 0, next packet at 1000: ",
@@ -74,7 +82,7 @@ pub fn tell(page: &mut Page) {
 }
 
 // The answer to the second packet.
-fn behind(start: u32, byte: u8, time: u32) -> Answer<Message> {
+fn behind(start: u32, byte: u8, time: u32) -> Answer<Progress> {
     let mut memory = MEMORY;
     let begun = receiver::give(fresh(), &mut memory, &small(START), start);
     answered(receiver::give(begun.receiver, &mut memory, &small(byte), time).answer)

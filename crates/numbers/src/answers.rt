@@ -7,9 +7,9 @@ use told::{Answer, Good};
 
 // What became of a packet's message.
 #[derive(Drop)]
-pub struct Message(pub Kept);
+pub struct Progress(pub Kept);
 
-impl fmt::Display for Message {
+impl fmt::Display for Progress {
     fn fmt<W: fmt::Write>(&self, f: &mut fmt::Formatter<W>) -> fmt::Result {
         let again = match self.0 {
             Kept::Held { slot, bytes, again } => {
@@ -30,12 +30,12 @@ impl fmt::Display for Message {
 }
 
 // The answer to a packet.
-pub fn answered(answer: Result<Kept, Refusal>) -> Answer<Message> {
-    Answer(answer.map(Message))
+pub fn answered(answer: Result<Kept, Refusal>) -> Answer<Progress> {
+    Answer(answer.map(Progress))
 }
 
 // The answer to a packet after some calls.
-pub fn answered_after(calls: &[Call], packet: &[u8]) -> Answer<Message> {
+pub fn answered_after(calls: &[Call], packet: &[u8]) -> Answer<Progress> {
     let mut memory = MEMORY;
     let before = after(calls, &mut memory);
     answered(receiver::give(before, &mut memory, packet, 0).answer)

@@ -6,22 +6,27 @@ use smbus::Packet;
 use std::fmt;
 use told::{Answer, Page, SmbusPacket};
 
+// One byte more than the longest packet has.
+const TOO_LONG: [u8; 69] = [0; 69];
+
 pub fn tell(page: &mut Page) {
     page.section("SMBus");
-    page.line("smbus frame of 9 bytes: ", Answer(read::<9>()));
-    page.line("smbus frame of 10 bytes: ", Answer(read::<10>()));
-    page.line("smbus frame of 73 bytes: ", Answer(read::<73>()));
-    page.line("smbus frame of 74 bytes: ", Answer(read::<74>()));
-    page.line("smbus packet of 4 bytes written: ", Answer(write(&[0; 4])));
-    page.line("smbus packet of 5 bytes written: ", Answer(write(&[0; 5])));
-    page.line(
-        "smbus packet of 68 bytes written: ",
-        Answer(write(&[0; 68])),
-    );
-    page.line(
-        "smbus packet of 69 bytes written: ",
-        Answer(write(&[0; 69])),
-    );
+    for (words, found) in [
+        ("smbus frame of 9 bytes: ", read::<9>()),
+        ("smbus frame of 10 bytes: ", read::<10>()),
+        ("smbus frame of 73 bytes: ", read::<73>()),
+        ("smbus frame of 74 bytes: ", read::<74>()),
+    ] {
+        page.line(words, Answer(found));
+    }
+    for (words, packet) in [
+        ("smbus packet of 4 bytes written: ", &TOO_LONG[..4]),
+        ("smbus packet of 5 bytes written: ", &TOO_LONG[..5]),
+        ("smbus packet of 68 bytes written: ", &TOO_LONG[..68]),
+        ("smbus packet of 69 bytes written: ", &TOO_LONG),
+    ] {
+        page.line(words, Answer(write(packet)));
+    }
 }
 
 // A frame of N bytes that is right in all but, perhaps, its size: its count counts all but four.

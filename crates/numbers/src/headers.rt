@@ -1,5 +1,5 @@
 // The fields of a packet's header, and the EIDs that an endpoint can have.
-use crate::answers::{Message, answered, done};
+use crate::answers::{Progress, answered, done};
 use crate::packets::{MEMORY, ORDER, fresh};
 use mctp::{Eid, Header};
 use std::fmt;
@@ -67,7 +67,7 @@ fn own(eid: u8) -> Answer<Good> {
 }
 
 // A packet from this EID.
-fn from(eid: u8) -> Answer<Message> {
+fn from(eid: u8) -> Answer<Progress> {
     let mut packet = ORDER;
     packet[2] = eid;
     answered(receiver::give(fresh(), &mut MEMORY, &packet, 0).answer)

@@ -1,5 +1,5 @@
 // A message of one packet, and one that fills its slot to the last byte.
-use crate::answers::{Message, answered, answered_after};
+use crate::answers::{Progress, answered, answered_after};
 use crate::packets::Call::Large;
 use crate::packets::{Call, MEMORY, after, large, small};
 use told::{Answer, Page};
@@ -49,7 +49,7 @@ pub fn tell(page: &mut Page) {
 }
 
 // A packet after 16 bodies and the byte that was too many.
-fn dropped() -> Answer<Message> {
+fn dropped() -> Answer<Progress> {
     let mut memory = MEMORY;
     let full = after(&BODIES, &mut memory);
     let over = receiver::give(full, &mut memory, &small(0x48), 0);

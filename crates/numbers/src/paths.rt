@@ -1,5 +1,5 @@
 // One packet on the three paths, each to a fresh receiver.
-use crate::answers::Message;
+use crate::answers::{Progress, answered};
 use crate::packets::{MEMORY, ORDER, fresh};
 use mctp::Refusal;
 use mmbi::{Flags, Pointers};
@@ -17,16 +17,20 @@ pub fn tell(page: &mut Page) {
 
 // What a carrier brought: a packet, and the receiver's answer to it; or none.
 #[derive(Drop)]
-pub struct Brought(Option<Answer<Message>>);
+pub struct Delivery(Option<Answer<Progress>>);
 
-impl Brought {
-    pub fn by(received: Received) -> Brought {
-        let answer = received.arrived.ok().map(|brought| brought.answer);
-        Brought(answer.map(|answer| Answer(answer.map(Message))))
+impl From<Received> for Delivery {
+    fn from(received: Received) -> Delivery {
+        Delivery(
+            received
+                .arrived
+                .ok()
+                .map(|arrived| answered(arrived.answer)),
+        )
     }
 }
 
-impl fmt::Display for Brought {
+impl fmt::Display for Delivery {
     fn fmt<W: fmt::Write>(&self, f: &mut fmt::Formatter<W>) -> fmt::Result {
         match &self.0 {
             Some(answer) => answer.fmt(f),
@@ -35,21 +39,21 @@ impl fmt::Display for Brought {
     }
 }
 
-fn by_smbus() -> Result<Brought, Refusal> {
+fn by_smbus() -> Result<Delivery, Refusal> {
     let mut frame = [0; 10];
     smbus::write(&mut frame, &ORDER, 32, 17)?;
     let received = rack::from_smbus(&frame, 32, fresh(), &mut MEMORY, 0);
-    Ok(Brought::by(received))
+    Ok(Delivery::from(received))
 }
 
-fn by_pcc() -> Result<Brought, Refusal> {
+fn by_pcc() -> Result<Delivery, Refusal> {
     let mut region = [0; 84];
     pcc::write(&mut region, 3, true, &ORDER)?;
     let received = rack::from_pcc(&region, 3, fresh(), &mut MEMORY, 0);
-    Ok(Brought::by(received))
+    Ok(Delivery::from(received))
 }
 
-fn by_ring() -> Result<Brought, Refusal> {
+fn by_ring() -> Result<Delivery, Refusal> {
     let mut bytes = [0; 128];
     let mut offered = Offered {
         configured: 128,
@@ -58,5 +62,5 @@ fn by_ring() -> Result<Brought, Refusal> {
     };
     offered.pointers.write = ring::write(&mut bytes, offered, &ORDER)?;
     let received = rack::from_ring(&bytes, offered, &mut [0; 68], fresh(), &mut MEMORY, 0);
-    Ok(Brought::by(received))
+    Ok(Delivery::from(received))
 }

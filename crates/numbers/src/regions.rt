@@ -1,7 +1,6 @@
 // The length word of a PCC region.
 use crate::packets::ORDER;
 use mctp::Refusal;
-use pcc::Packet;
 use told::{Answer, Page, PccPacket};
 
 pub fn tell(page: &mut Page) {
@@ -21,6 +20,5 @@ fn read(length: u32) -> Result<PccPacket, Refusal> {
     let mut region = [0; 84];
     pcc::write(&mut region, 3, false, &ORDER)?;
     region[8..12].copy_from_slice(&length.to_le_bytes());
-    let Packet { size, notify } = pcc::read(&region, 3)?;
-    Ok(PccPacket { size, notify })
+    pcc::read(&region, 3).map(PccPacket)
 }

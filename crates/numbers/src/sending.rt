@@ -2,7 +2,7 @@
 // document 01's bodies of 64, 64 and 2 with flags BD, 0D and 5D.
 use crate::headers::Fields;
 use crate::packets::{MEMORY, Memory, fresh};
-use crate::paths::Brought;
+use crate::paths::Delivery;
 use mctp::{Eid, Key, Refusal};
 use sender::{Heading, Message};
 use slots::Receiver;
@@ -11,27 +11,31 @@ use told::{Answer, Page};
 
 const MESSAGE: [u8; 130] = [0; 130];
 
+const TOO_LONG: [u8; 1025] = [0; 1025];
+
 pub fn tell(page: &mut Page) {
     page.section("Messages sent from EID 10 to EID 9, tag owner, tag 5, first sequence 3");
-    page.line("message of 0 bytes: ", Answer(count(&[0; 0])));
-    page.line("message of 1 byte: ", Answer(count(&[0; 1])));
-    page.line("message of 64 bytes: ", Answer(count(&[0; 64])));
-    page.line("message of 65 bytes: ", Answer(count(&[0; 65])));
-    page.line("message of 1024 bytes: ", Answer(count(&[0; 1024])));
-    page.line("message of 1025 bytes: ", Answer(count(&[0; 1025])));
-    page.line("message of 130 bytes: ", Answer(count(&[0; 130])));
-    page.line("its packet 0: ", Answer(cut(&mut [0; 68], 9, 0)));
-    page.line("its packet 1: ", Answer(cut(&mut [0; 68], 9, 1)));
-    page.line("its packet 2: ", Answer(cut(&mut [0; 68], 9, 2)));
-    page.line("its packet 3: ", Answer(cut(&mut [0; 68], 9, 3)));
-    page.line(
-        "its packet 0 in an output of 67 bytes: ",
-        Answer(cut(&mut [0; 67], 9, 0)),
-    );
-    page.line(
-        "its packet 0 to EID 7 instead: ",
-        Answer(cut(&mut [0; 68], 7, 0)),
-    );
+    for (words, message) in [
+        ("message of 0 bytes: ", &TOO_LONG[..0]),
+        ("message of 1 byte: ", &TOO_LONG[..1]),
+        ("message of 64 bytes: ", &TOO_LONG[..64]),
+        ("message of 65 bytes: ", &TOO_LONG[..65]),
+        ("message of 1024 bytes: ", &TOO_LONG[..1024]),
+        ("message of 1025 bytes: ", &TOO_LONG),
+        ("message of 130 bytes: ", &MESSAGE),
+    ] {
+        page.line(words, Answer(count(message)));
+    }
+    for (words, room, destination, k) in [
+        ("its packet 0: ", 68, 9, 0),
+        ("its packet 1: ", 68, 9, 1),
+        ("its packet 2: ", 68, 9, 2),
+        ("its packet 3: ", 68, 9, 3),
+        ("its packet 0 in an output of 67 bytes: ", 67, 9, 0),
+        ("its packet 0 to EID 7 instead: ", 68, 7, 0),
+    ] {
+        page.line(words, Answer(cut(room, destination, k)));
+    }
     page.line(
         "its frames, one by one to a fresh receiver at EID 9: ",
         sent(),
@@ -68,13 +72,13 @@ fn message(destination: u8) -> Message<'static> {
 
 // A packet of a message: its size, the size of its body, and its header.
 #[derive(Drop)]
-struct Packet {
+struct CutPacket {
     size: usize,
     body: usize,
     fields: Fields,
 }
 
-impl fmt::Display for Packet {
+impl fmt::Display for CutPacket {
     fn fmt<W: fmt::Write>(&self, f: &mut fmt::Formatter<W>) -> fmt::Result {
         write!(
             f,
@@ -84,10 +88,12 @@ impl fmt::Display for Packet {
     }
 }
 
-// Packet k of the 130 bytes, in a lent output.
-fn cut(out: &mut [u8], destination: u8, k: usize) -> Result<Packet, Refusal> {
+// Packet k of the 130 bytes, in an output of at most 68 bytes.
+fn cut(room: usize, destination: u8, k: usize) -> Result<CutPacket, Refusal> {
+    let mut output = [0; 68];
+    let out = &mut output[..room.min(68)];
     let size = sender::to_output(out, message(destination), k)?;
-    Ok(Packet {
+    Ok(CutPacket {
         size,
         body: size.saturating_sub(4),
         fields: Fields(mctp::header_of(&out[..size.min(out.len())])),
@@ -105,7 +111,7 @@ fn sent() -> Frames {
 
 // What became of the frames, each in turn.
 #[derive(Drop)]
-struct Frames([Answer<Brought>; 3]);
+struct Frames([Answer<Delivery>; 3]);
 
 impl fmt::Display for Frames {
     fn fmt<W: fmt::Write>(&self, f: &mut fmt::Formatter<W>) -> fmt::Result {
@@ -115,12 +121,12 @@ impl fmt::Display for Frames {
 }
 
 // Packet k sent from address 17 to address 32, and received there.
-fn send(before: Receiver, memory: &mut Memory, k: usize) -> (Answer<Brought>, Receiver) {
+fn send(before: Receiver, memory: &mut Memory, k: usize) -> (Answer<Delivery>, Receiver) {
     let mut frame = [0; 73];
     match sender::to_smbus(&mut frame, message(9), k, 32, 17) {
         Ok(size) => {
             let received = rack::from_smbus(&frame[..size.min(73)], 32, before, memory, 0);
-            (Answer(Ok(Brought::by(received))), received.receiver)
+            (Answer(Ok(Delivery::from(received))), received.receiver)
         }
         Err(why) => (Answer(Err(why)), before),
     }

@@ -32,7 +32,7 @@ impl fmt::Display for State {
             InterfaceState::ResetRequestByHost => "reset asked by host",
             InterfaceState::ResetRequestByController => "reset asked by controller",
             InterfaceState::ResetAcked => "reset acknowledged",
-            _ => "",
+            _ => unreachable!(),
         })
     }
 }

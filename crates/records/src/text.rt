@@ -1,10 +1,10 @@
-// A line as it is made, word after word, in room for any.
+// A line as it is made, piece after piece, in room for any.
 ghost use Rattle.std.specs.Prelude.{◌≡◌, ◌+◌, ◌≤◌, [], ◌++◌, length};
 
 use crate::decimal::lay_decimal;
 use crate::line::LINE_ROOM;
 
-// The letters stand at the front of the room. What lays them is inlined: a word of known length is then a few stores.
+// The letters stand at the front of the room. What lays them is inlined: a text of known length is then a few stores.
 #[derive(Drop)]
 pub struct Text {
     bytes: [u8; LINE_ROOM],
@@ -34,13 +34,13 @@ impl Text {
     }
 
     #[inline]
-    pub fn word(&mut self, word: &[u8])
-        requires { self.old.len + length word.now ≤ LINE_ROOM }
-        ensures letters { letters self.new ≡ letters self.old ++ word.now }
-        ensures len { self.new.len ≡ self.old.len + length word.now }
+    pub fn lay(&mut self, text: &[u8])
+        requires { self.old.len + length text.now ≤ LINE_ROOM }
+        ensures letters { letters self.new ≡ letters self.old ++ text.now }
+        ensures len { self.new.len ≡ self.old.len + length text.now }
     {
-        octets::lay(&mut self.bytes, self.len, word);
-        self.len += word.len();
+        octets::lay(&mut self.bytes, self.len, text);
+        self.len += text.len();
     }
 
     #[inline]
@@ -52,14 +52,14 @@ impl Text {
         self.len += lay_decimal(&mut self.bytes, self.len, n);
     }
 
-    // A word and its number.
+    // A label and its number.
     #[inline]
-    pub fn named(&mut self, word: &[u8], n: u64)
-        requires { self.old.len + length word.now + 20 ≤ LINE_ROOM }
-        ensures letters { letters self.new ≡ letters self.old ++ named word.now n }
-        ensures len { self.new.len ≤ self.old.len + length word.now + 20 }
+    pub fn named(&mut self, label: &[u8], n: u64)
+        requires { self.old.len + length label.now + 20 ≤ LINE_ROOM }
+        ensures letters { letters self.new ≡ letters self.old ++ named label.now n }
+        ensures len { self.new.len ≤ self.old.len + length label.now + 20 }
     {
-        self.word(word);
+        self.lay(label);
         self.number(n);
     }
 
@@ -69,6 +69,6 @@ impl Text {
         requires { self.old.len + 7 ≤ LINE_ROOM }
         ensures { letters self.new ≡ letters self.old ++ ending again }
     {
-        self.word(if again { b" again\n" } else { b"\n" });
+        self.lay(if again { b" again\n" } else { b"\n" });
     }
 }

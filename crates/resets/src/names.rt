@@ -91,7 +91,7 @@ impl fmt::Display for Deed {
 
 // A step of an end: its phase, the flags that it sees, what it does, its next phase.
 #[derive(Clone, Copy)]
-pub struct Row {
+pub struct TableLine {
     pub end: &'static str,
     phase: &'static str,
     sees: Flags,
@@ -99,9 +99,9 @@ pub struct Row {
     next: &'static str,
 }
 
-impl Row {
-    pub fn of<P: Named>(phase: P, sees: Flags, step: Step<P>) -> Row {
-        Row {
+impl TableLine {
+    pub fn of<P: Named>(phase: P, sees: Flags, step: Step<P>) -> TableLine {
+        TableLine {
             end: P::END,
             phase: phase.name(),
             sees,
@@ -111,8 +111,8 @@ impl Row {
     }
 }
 
-// The row from the phase on.
-impl fmt::Display for Row {
+// The line from the phase on.
+impl fmt::Display for TableLine {
     fn fmt<W: fmt::Write>(&self, f: &mut fmt::Formatter<W>) -> fmt::Result {
         let phase = self.phase;
         let sees = Digits(self.sees);

@@ -1,7 +1,7 @@
 // What each phase does: every number of a byte asked for its phase, and every phase about all sixteen flag states.
 ghost use Rattle.std.specs.Prelude.{◌≤◌};
 
-use crate::names::{Named, Row};
+use crate::names::{Named, TableLine};
 use handshake::Step;
 use mctp::Refusal;
 use mmbi::{Change, Flags};
@@ -17,24 +17,21 @@ pub struct Pairs {
     pub waiting: u32,
 }
 
-// A row for each pair in which a phase of this end acts.
+// A line for each pair in which a phase of this end acts.
 pub fn show<P: Named>(rt: HostRuntime) -> io::Result<()> {
-    for n in 0..=u8::MAX {
-        if let Ok(phase) = P::of_number(n) {
-            show_phase(rt, n, phase)?;
-        }
+    for phase in (0..=u8::MAX).filter_map(|n| P::of_number(n).ok()) {
+        show_phase(rt, phase)?;
     }
     Ok(())
 }
 
-fn show_phase<P: Named>(rt: HostRuntime, n: u8, phase: P) -> io::Result<()> {
+fn show_phase<P: Named>(rt: HostRuntime, phase: P) -> io::Result<()> {
     for digits in 0..FLAG_STATES {
         let flags = flags_of(digits);
         let step = phase.step(flags);
         if step != waiting(phase) {
-            let row = Row::of(phase, flags, step);
-            let end = row.end;
-            println!(rt; "| {end} | {n} | {row}")?;
+            let line = TableLine::of(phase, flags, step);
+            println!(rt; "| {} | {} | {line}", line.end, phase.number())?;
         }
     }
     Ok(())
@@ -70,14 +67,10 @@ pub fn show_refused<P: Named>(rt: HostRuntime) -> io::Result<()> {
 
 // Each phase that an ask changes, and what it makes of it.
 pub fn show_asks<P: Named>(rt: HostRuntime) -> io::Result<()> {
-    for n in 0..=u8::MAX {
-        if let Ok(phase) = P::of_number(n) {
-            let asked = phase.ask();
-            if asked != phase {
-                let before = phase.name();
-                let after = asked.name();
-                print!(rt; " from {before} to {after}")?;
-            }
+    for phase in (0..=u8::MAX).filter_map(|n| P::of_number(n).ok()) {
+        let asked = phase.ask();
+        if asked != phase {
+            print!(rt; " from {} to {}", phase.name(), asked.name())?;
         }
     }
     Ok(())

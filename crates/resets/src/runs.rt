@@ -1,7 +1,7 @@
 // Both ends stepping in turn, from an ask until both run in normal runtime again.
 ghost use Rattle.std.specs.Iterator.{at_most};
 
-use crate::names::{Named, Row};
+use crate::names::{Named, TableLine};
 use handshake::{ControllerPhase, HostPhase, Phase};
 use mmbi::Flags;
 use std::io;
@@ -51,11 +51,10 @@ impl Run {
         }
     }
 
-    // A row for each step.
+    // A line for each step.
     pub fn show(self, rt: HostRuntime) -> io::Result<()> {
-        for (n, row) in (1u8..).zip(self) {
-            let end = row.end;
-            println!(rt; "| {n} | {end} | {row}")?;
+        for (n, line) in (1u8..).zip(self) {
+            println!(rt; "| {n} | {} | {line}", line.end)?;
         }
         Ok(())
     }
@@ -70,16 +69,16 @@ impl Run {
 
 // The steps that it takes until the flags are 1010 and both phases running.
 impl Iterator for Run {
-    type Item = Row;
+    type Item = TableLine;
 
     ghost remaining = { λ run. at_most run.left };
 
-    fn next(&mut self) -> Option<Row> {
+    fn next(&mut self) -> Option<TableLine> {
         if self.is_back() {
             return None;
         }
         self.left = self.left.checked_sub(1)?;
-        let row = match self.next {
+        let line = match self.next {
             End::Host => {
                 self.next = End::Controller;
                 make_step(&mut self.host, &mut self.flags)
@@ -89,14 +88,14 @@ impl Iterator for Run {
                 make_step(&mut self.controller, &mut self.flags)
             }
         };
-        Some(row)
+        Some(line)
     }
 }
 
-fn make_step<P: Named>(phase: &mut P, flags: &mut Flags) -> Row {
+fn make_step<P: Named>(phase: &mut P, flags: &mut Flags) -> TableLine {
     let step = phase.step(*flags);
-    let row = Row::of(*phase, *flags, step);
+    let line = TableLine::of(*phase, *flags, step);
     *phase = step.next;
     *flags = flags.changed(step.change);
-    row
+    line
 }

@@ -3,6 +3,7 @@ ghost use Rattle.std.specs.Prelude.{◌++◌, Some, codes, decimal};
 ghost use Rattle.told.specs.Answer.{answer_text, notify_text, refused_text};
 
 use mctp::Refusal;
+use pcc::Packet;
 use std::fmt;
 
 // What a call gave, in words of its own, or the number of its refusal.
@@ -63,17 +64,15 @@ impl fmt::Display for SmbusPacket {
 
 // A packet found in a PCC region.
 #[derive(Drop)]
-pub struct PccPacket {
-    pub size: usize,
-    pub notify: bool,
-}
+pub struct PccPacket(pub Packet);
 
 impl fmt::Display for PccPacket {
-    ghost output = { λ packet. Some (codes "good, packet of " ++ (decimal packet.size ++ notify_text packet.notify)) };
+    ghost output = { λ packet. Some (codes "good, packet of "
+        ++ (decimal packet.0.size ++ notify_text packet.0.notify)) };
 
     fn fmt<W: fmt::Write>(&self, f: &mut fmt::Formatter<W>) -> fmt::Result {
-        let size = self.size;
-        if self.notify {
+        let Packet { size, notify } = self.0;
+        if notify {
             write!(f, "good, packet of {size} bytes, notify set")
         } else {
             write!(f, "good, packet of {size} bytes, notify clear")

@@ -44,11 +44,9 @@ impl Page {
         ensures begun { is_begun self.new.end.now ≡ true }
         ensures heading { IsNone self.new.heading }
     {
-        let end = self.end;
-        let rt = self.output.rt;
         let begun = match self.heading.take() {
-            Some(heading) => print!(rt; "{end}{}{heading}\n{words}", self.gap),
-            None => print!(rt; "{end}{words}"),
+            Some(heading) => print!(self.output.rt; "{}{}{heading}\n{words}", self.end, self.gap),
+            None => print!(self.output.rt; "{}{words}", self.end),
         };
         self.output.note(begun);
         self.end = "\n";

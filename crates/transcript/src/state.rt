@@ -5,7 +5,7 @@ ghost use Rattle.transcript.specs.State.{start, one_more, with_packet};
 
 use mctp::Eid;
 use rack::{Arrived, NoPacket};
-use slots::Receiver;
+use slots::{Receiver, Setup};
 
 // "Own address 0x20, EID 9"
 pub const ADDRESS: u8 = 0x20;
@@ -15,7 +15,7 @@ pub const OWN: Eid = Eid(9);
 // "The bench program gives 0 as every time", so any limit will do.
 pub const TIME: u32 = 0;
 
-pub const LIMIT: u32 = 60000;
+pub const LIMIT: u32 = Setup::LONGEST_LIMIT;
 
 #[derive(Clone, Copy)]
 pub struct State {

@@ -1,7 +1,6 @@
 -- `bench::Bench::turn` meets its contract.
 -- Assumes nothing.
 use mathlib.Core.Path.{refl}
-use native.Mathlib.Omega.{arith}
 use Rattle.bench.proofs.Turns.{turned_few, turned}
 use Rattle.bench.proofs.Bench.turn.Goals as goal
 
@@ -11,11 +10,15 @@ invariant_of-self c = record {
       c.fill.ensures.stays c.in_ok-came.ensures.within c.drain-read.ensures c.to_front-self.ensures.count;
 }
 
-pub returns-clause-taken : goal.returns-clause-taken
-returns-clause-taken c =
+pub returns-then-is_ok-clause-taken : goal.returns-then-is_ok-clause-taken
+returns-then-is_ok-clause-taken c =
     turned c.args.self.now c.fill.new.self c.drain-read.new.self c.in_ok-came.came c.drain-read.result
     c.fill.ensures.stays c.in_ok-came.ensures.within c.drain-read.ensures c.to_front-self.ensures.count
-    refl refl refl refl c.to_front-self.ensures.bytes c.is_ok.ensures.value
+    refl refl refl refl c.to_front-self.ensures.bytes c.if-is_ok.ensures.value
 
-pub overflow_add-end : goal.overflow_add-end
-overflow_add-end c = omega (arith, c.in_ok-came.ensures.within, c.fill.ensures.stays.size)
+-- nothing is asked of what came
+pub returns-else-is_ok-clause-taken : goal.returns-else-is_ok-clause-taken
+returns-else-is_ok-clause-taken c = rw c.if-is_ok.false
+    (turned c.args.self.now c.fill.new.self c.drain-read.new.self c.in_ok-came.came c.drain-read.result
+    c.fill.ensures.stays c.in_ok-came.ensures.within c.drain-read.ensures c.to_front-self.ensures.count
+    refl refl refl refl c.to_front-self.ensures.bytes c.if-is_ok.ensures.value)

@@ -11,5 +11,5 @@ use Rattle.records.proofs.text.Text.named.Goals as goal
 pub returns-clause-letters : goal.returns-clause-letters
 unfolding named
 returns-clause-letters c =
-    c.number.ensures.letters ∙ ap (λ (l : List ℕ). l ++ decimal c.args.n) c.word.ensures.letters
-    ∙ append_assoc (letters c.args.self.now) c.args.word.now (decimal c.args.n)
+    c.number.ensures.letters ∙ ap (λ (l : List ℕ). l ++ decimal c.args.n) c.lay.ensures.letters
+    ∙ append_assoc (letters c.args.self.now) c.args.label.now (decimal c.args.n)
