@@ -63,7 +63,7 @@ fn free_within(most: usize, receiver: Receiver, slot: usize) -> Changed
     ensures number { outcome_number result.outcome ≡ free_refusal most receiver slot }
     ensures receiver { result.receiver ≡ freed_of most receiver slot }
 {
-    if check::right_within(most, receiver) & (slot < 4) {
+    if check::right_within(most, receiver) && slot < 4 {
         return Changed {
             outcome: Ok(()),
             receiver: with_slot(receiver, slot, Slot::FREE),

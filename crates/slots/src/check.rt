@@ -1,4 +1,6 @@
 // The state check: comparisons, and one remainder for each gathering slot; where none gathers, or one, it leaves early.
+// Every arrival takes it, so here and in the slots' other tests `&` joins what is cheap to ask: `&&` would put a branch
+// between, which takes instructions (4 in `too_old`).
 ghost use Rattle.std.specs.Prelude.{◌≡◌, ◌&&◌};
 ghost use Rattle.slots.specs.Setup.{right_setup, ours_of};
 ghost use Rattle.slots.specs.State.{multiple, right_numbers, right_slot, clash, each_right, all_apart, right_state};
@@ -28,7 +30,7 @@ pub fn right_within(most: usize, receiver: Receiver) -> bool
 pub fn setup_right(setup: Setup) -> bool
     ensures { result ≡ right_setup setup }
 {
-    setup.own.is_endpoint() & ((1 <= setup.limit) & (setup.limit <= Setup::LONGEST_LIMIT))
+    setup.own.is_endpoint() & (1..=Setup::LONGEST_LIMIT).contains(&setup.limit)
 }
 
 // Whether 16 lets this destination through.
@@ -85,8 +87,7 @@ fn right_numbers(most: usize, sequence: u8, unit: u8, held: u16) -> bool
 {
     (usize::from(unit) <= most)
         & is_multiple(unit, held)
-        & (1 <= held)
-        & (held <= 1024)
+        & (1..=1024).contains(&held)
         & (sequence <= 3)
 }
 
@@ -114,8 +115,5 @@ fn all_apart(slots: &[Slot; 4]) -> bool
 fn clashes(a: Slot, b: Slot) -> bool
     ensures { result ≡ clash a.state b.state }
 {
-    match a.state {
-        SlotState::Free => false,
-        SlotState::Gathering { key, .. } => b.has_key(key),
-    }
+    matches!(a.state, SlotState::Gathering { key, .. } if b.has_key(key))
 }

@@ -19,14 +19,20 @@ pub fn state_at(receiver: Receiver, slot: usize) -> SlotState
 pub fn slot_of(receiver: Receiver, key: Key) -> Option<u8>
     ensures { result ≡ found_slot (slot_of receiver.slots key) }
 {
-    let found = receiver.slots.iter().position(|slot| slot.has_key(key));
-    found.map(|slot| slot as u8)
+    receiver
+        .slots
+        .iter()
+        .position(|slot| slot.has_key(key))
+        .map(|slot| slot as u8)
 }
 
 // The lowest slot that is free, likewise.
 pub fn lowest_free(receiver: Receiver) -> Option<u8>
     ensures { result ≡ found_slot (lowest_free receiver.slots 0 4) }
 {
-    let found = receiver.slots.iter().position(|slot| slot.is_free());
-    found.map(|slot| slot as u8)
+    receiver
+        .slots
+        .iter()
+        .position(|slot| slot.is_free())
+        .map(|slot| slot as u8)
 }

@@ -15,8 +15,8 @@ returns c =
     let key = c.args.key in
     let slots = c.args.receiver.slots in
     let four : length slots ≡ 4 = c.well_formed.0.1.1.1.0.1.0.1 in
-    let first : c.position-found.result ≡ position (λ (x : Slot). has_key key x.state) slots =
-    position_from_yields_List (λ (x : Slot). has_key key x.state) _ _ _ c.position-found.ensures.ran
+    let first : c.position.result ≡ position (λ (x : Slot). has_key key x.state) slots =
+    position_from_yields_List (λ (x : Slot). has_key key x.state) _ _ _ c.position.ensures.ran
     (YieldsList-from_slice slots c.iter.ensures.rest) (λ x b q k. search (rules, tests)) in
-    let same : c.map.result ≡ c.position-found.result = grind (arith, common_steps) in
+    let same : c.map.result ≡ c.position.result = grind (arith, common_steps) in
     same ∙ first ∙ position_found (has_key key) slots four
