@@ -75,7 +75,8 @@ every_controller test e controller.Asking = AllPass-from_list_all test controlle
 every_controller test e controller.Asked = AllPass-from_list_all test controllers e 2 controller.Running (omega arith)
 every_controller test e controller.Down = AllPass-from_list_all test controllers e 3 controller.Running (omega arith)
 every_controller test e controller.Cleared = AllPass-from_list_all test controllers e 4 controller.Running (omega arith)
-every_controller test e controller.Initializing = AllPass-from_list_all test controllers e 5 controller.Running (omega arith)
+every_controller test e controller.Initializing =
+    AllPass-from_list_all test controllers e 5 controller.Running (omega arith)
 
 -- no refusal has the number 0
 not_good : (r : Refusal) → 0 ≡ number_of r → ⊥

@@ -38,7 +38,8 @@ single n h one =
     (λ (few : n < 10). few)
     (λ (few : n < 10 → ⊥). absurd (omega (arith, count_more n h (omega arith), decimal_some (n / 10))))
 
-module _ {l : List ℕ} {at n behind rest : ℕ} {out : List ℕ} (y : Laying l at n behind rest out) (h : rest < 10 ^ 20) where
+module _ {l : List ℕ} {at n behind rest : ℕ} {out : List ℕ} (y : Laying l at n behind rest out)
+    (h : rest < 10 ^ 20) where
   -- one more: the last digit that was to come
   pub laying_more : at + 1 < behind
       → Laying l at n (behind - 1) (rest / 10) (laid out (behind - 1) ((48 + rest % 10) ∷ []))

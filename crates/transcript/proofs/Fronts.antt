@@ -36,7 +36,8 @@ module _ (s : List ℕ) (from end : ℕ) where
       (omega (arith, between_size), rw none)
 
   -- a copy of what there is up to the end is the part moved
-  pub moved_copied : (stop : ℕ) → stop ≡ min end (length s) → from < stop → copy_within s from stop 0 ≡ moved_of s from end
+  pub moved_copied : (stop : ℕ) → stop ≡ min end (length s) → from < stop
+      → copy_within s from stop 0 ≡ moved_of s from end
   unfolding moved_of between
   moved_copied stop is h =
       let count : stop - from ≡ min (end - from) (length (drop from s)) = omega (arith, length-drop from s) in

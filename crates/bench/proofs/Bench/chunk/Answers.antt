@@ -16,4 +16,6 @@ shared_ref_as_front-send c =
 pub returns : goal.returns
 returns c =
     let e = c.chunk-taken.ensures in
-    chunk_takes c.args.self.now (take c.args.end c.args.self.now.input) c.args.from (rw length-take (omega arith)) (omega arith) (e.state, (e.memory, (e.read, (e.written, e.output)))) refl refl refl refl c.send-self.ensures e.short
+    chunk_takes c.args.self.now (take c.args.end c.args.self.now.input) c.args.from (rw length-take (omega arith))
+    (omega arith) (e.state, (e.memory, (e.read, (e.written, e.output)))) refl refl refl refl c.send-self.ensures
+    e.short

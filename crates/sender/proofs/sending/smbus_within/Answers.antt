@@ -1,5 +1,5 @@
--- `sender::sending::smbus_within` meets its contract: the frame's length is the carrier's own of packet k, and 0 where there
--- is none.
+-- `sender::sending::smbus_within` meets its contract: the frame's length is the carrier's own of packet k, and 0 where
+-- there is none.
 -- Assumes nothing.
 use Rattle.std.proofs.Common.{arith}
 use Rattle.std.proofs.lemmas.Grind.{common_steps}
