@@ -87,7 +87,7 @@ impl fmt::Display for Flagged {
 
 // A window in which only this byte of the words is not 0.
 fn with_bits(at: u8, bits: u8) -> Result<Flagged, Refusal> {
-    let window = Window::with(at as usize, &[bits])?;
+    let window = Window::with(usize::from(at), &[bits])?;
     Ok(Flagged(window::interface_of(&window.bytes, window.c)))
 }
 
