@@ -4,7 +4,9 @@ use mathlib.Core.Path.{◌≡◌}
 use Prim.Native.Nat.{ℕ}
 use denote.RattleType.{RattleType}
 use contract.Lifetimes.{Lfts}
-use contract.BorrowLft.{◌⊑◌}
+use contract.BorrowLft.{◌⊑◌, ⊑_static}
+use Rattle.octets.specs.contracts.word.LowFirst as low_first
+use Rattle.octets.specs.contracts.word.HighFirst as high_first
 use Rattle.octets.proofs.Choice.{determined}
 use Rattle.octets.proofs.read.part.Reads as part
 use Rattle.octets.proofs.read.byte_at.Reads as byte_at
@@ -38,19 +40,27 @@ pub lay_word_determined : (O L o d : _) (κs : Lfts 2) (a r q e f : _)
     → lay-word.Post O L o d κs a r e → lay-word.Post O L o d κs a q f → e.0.now ≡ f.0.now
 lay_word_determined O L o d κs a r q e f p q' = determined p q'
 
--- No call asks anything of its arguments first; of the type of a byte order only that it outlives the call, as Rust
--- asks of every type parameter.
+-- No call asks anything of its arguments first, nor do the words in either order. Of the type of another byte order
+-- they ask only that it outlives the call, as Rust asks of every type parameter.
 pub no_requires : ((κs : Lfts 1) (a : _) → byte_at.Pre κs a)
+    × ((L o d : _) (κs : Lfts 2) (a : _) → word-at.Pre low_first.the_row L o d κs a)
+    × ((L o d : _) (κs : Lfts 2) (a : _) → word-at.Pre high_first.the_row L o d κs a)
     × ((O : RattleType) (L o d : _) (κs : Lfts 2) (a : _) → κs.1.0 ⊑ O.lives → word-at.Pre O L o d κs a)
     × ((κs : Lfts 1) (a : _) → part.Pre κs a)
     × ((κs : Lfts 1) (a : _) → lay-byte.Pre κs a)
     × ((κs : Lfts 2) (a : _) → lay.Pre κs a)
+    × ((L o d : _) (κs : Lfts 2) (a : _) → lay-word.Pre low_first.the_row L o d κs a)
+    × ((L o d : _) (κs : Lfts 2) (a : _) → lay-word.Pre high_first.the_row L o d κs a)
     × ((O : RattleType) (L o d : _) (κs : Lfts 2) (a : _) → κs.1.0 ⊑ O.lives → lay-word.Pre O L o d κs a)
 no_requires = (
   (λ κs a. tt),
+  (λ L o d κs a. ⊑_static _),
+  (λ L o d κs a. ⊑_static _),
   (λ O L o d κs a h. h),
   (λ κs a. tt),
   (λ κs a. tt),
   (λ κs a. tt),
+  (λ L o d κs a. ⊑_static _),
+  (λ L o d κs a. ⊑_static _),
   (λ O L o d κs a h. h),
 )

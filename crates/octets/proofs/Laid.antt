@@ -9,8 +9,7 @@ use native.Mathlib.Nat.{add-zero, zero-add, add-suc, suc-add}
 use native.Mathlib.Omega.{arith}
 use lib.ListN.{length, get_or, take, drop, set, length-set}
 use lib.Seq.{take-suc, sets-eq, length-sets, set_out, set_comm, length-take-le, get_or-set_other}
-use lib.Seq.{drop-drop, drop-set-lt, drop-set-add, take-set-le}
-use borrow.Rule.Slice.PartMut.{put_mid}
+use lib.Seq.{drop-set-lt, drop-set-add, take-set-le}
 use Rattle.octets.specs.Bytes.{part, laid, fronted}
 
 -- past the end nothing is stored
@@ -49,12 +48,6 @@ pub laid_fits : (l : List ℕ) (at : ℕ) (new : List ℕ) → at + length new �
     → laid l at new ≡ take at l ++ (new ++ drop (at + length new) l)
 unfolding laid
 laid_fits l at new h = sets-eq new l at h ∙ append_assoc (take at l) new (drop (at + length new) l)
-
--- what is copied into a part of its length is laid there
-pub laid_copied : (l : List ℕ) (at k : ℕ) (new : List ℕ) → k ≡ length new → at + length new ≤ length l
-    → put_mid at k l new ≡ laid l at new
-laid_copied l at k new e h =
-    rw (e, drop-drop (length new) at l) (sym (laid_fits l at new h))
 
 -- the length stays
 pub laid-length : (l : List ℕ) (at : ℕ) (new : List ℕ) → length (laid l at new) ≡ length l

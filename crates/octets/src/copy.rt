@@ -11,16 +11,20 @@ pub fn lay_byte(out: &mut [u8], at: usize, b: u8)
     }
 }
 
-// The bytes of `new` laid over `out` from place `at` on; what would lie past the end falls off.
+// The bytes of `new` laid over `out` from place `at` on; what would lie past the end falls off. Byte after byte: the
+// compiler copies in wide pieces all the same, and calls no memmove, which firmware without a C library doesn't have.
 pub fn lay(out: &mut [u8], at: usize, new: &[u8])
     ensures { out.new ≡ laid out.old at new.now }
 {
     if at < out.len() {
-        let room = out.len() - at;
-        if new.len() <= room {
-            out[at..at + new.len()].copy_from_slice(new);
+        if new.len() <= out.len() - at {
+            for i in 0..new.len() {
+                out[at + i] = new[i];
+            }
         } else {
-            out[at..].copy_from_slice(&new[..room]);
+            for k in 0..out.len() - at {
+                lay_byte(out, at + k, new[k]);
+            }
         }
     }
 }

@@ -11,14 +11,12 @@ use borrow.Author.Tests.{le-leb, lt-leb}
 use lib.ListN.{length, take, drop, length-append}
 use lib.Seq.{take_at, length-take-le}
 use Rattle.octets.specs.Bytes.{laid}
-use native.Mathlib.Nat.{zero-add}
-use Rattle.octets.proofs.Laid.{laid_fits}
-use Rattle.octets.proofs.Parts.{part_grown}
+use Rattle.octets.proofs.Laid.{laid-append, laid_fits}
 use Rattle.records.specs.Decimal.{decimal}
 use Rattle.records.specs.declared.line.Line.{Line}
 use Rattle.records.specs.declared.line.Line.TheVariants.{Done, Held, Refused}
 use Rattle.records.specs.Line.{done_slot, length_word, held_slot, bytes_word, refused_word, arrivals_word, packets_word}
-use Rattle.records.specs.Line.{named, ending, pair, line_bytes, last_line, put, place_after}
+use Rattle.records.specs.Line.{named, ending, pair, line_bytes, last_line, put, place_after, Placed}
 use Rattle.records.proofs.Decimals.{decimal_most}
 
 -- the sizes of the pieces
@@ -95,18 +93,14 @@ line_most n (Refused number) = omega (arith, refused_size n number, decimal_most
 pub last_line_most : (arrivals packets : ℕ) → length (last_line arrivals packets) ≤ 86
 last_line_most arrivals packets = omega (arith, last_size arrivals packets, decimal_most arrivals, decimal_most packets)
 
--- what is laid behind the letters so far stands behind them
-pub letters_laid : (bytes : List ℕ) (len : ℕ) (new : List ℕ) (k : ℕ) → k ≡ len + length new → k ≤ length bytes
-    → take k (laid bytes len new) ≡ take len bytes ++ new
-letters_laid bytes len new k e h =
-    ap (λ (n : ℕ). take n (laid bytes len new)) e
-    ∙ ap (λ (at : ℕ). take (len + length new) (laid bytes at new)) (sym (zero-add len))
-    ∙ part_grown bytes 0 len new (omega arith)
-
--- pieces that came one behind the other behind a front
-pub two_behind : (front a b e x y z : List ℕ) → x ≡ front ++ a → y ≡ x ++ b → z ≡ y ++ e → z ≡ front ++ (a ++ (b ++ e))
-two_behind front a b e x y z h k m =
-    m ∙ ap (λ (l : List ℕ). l ++ e) (k ∙ ap (λ (l : List ℕ). l ++ b) h) ∙ simp append_assoc
+-- one piece laid after the other
+pub Placed-append : {l m o : List ℕ} {at p q : ℕ} (a b : List ℕ) → Placed l at a p m → Placed m p b q o
+    → Placed l at (a ++ b) q o
+Placed-append {l} {m} {o} {at} {p} {q} a b x y =
+    record {
+      place = omega (arith, x.place, y.place, length-append a b);
+      stored = y.stored ∙ cc (x.stored, x.place) ∙ sym (laid-append l at a b);
+    }
 
 -- a line is put where it fits, and the place after it told; where it does not, the output and the place stay
 module _ (out : List ℕ) (at : ℕ) (line : List ℕ) where
@@ -118,6 +112,10 @@ module _ (out : List ℕ) (at : ℕ) (line : List ℕ) where
     pub after_is : place_after out at line ≡ at + length line
     unfolding place_after
     after_is = rw (le-leb (at + length line) (length out) h)
+
+    pub put_placed : {r : ℕ} {left : List ℕ} → Placed out at line r left
+        → (r ≡ place_after out at line) × (left ≡ put out at line)
+    put_placed p = (p.place ∙ sym after_is, p.stored ∙ sym put_is)
 
     -- up to the new place stand the bytes that stood before the old one, and then the line
     pub put_front : take (place_after out at line) (put out at line) ≡ take at out ++ line

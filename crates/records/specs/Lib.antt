@@ -1,4 +1,3 @@
 pub mod Record
 pub mod Decimal
 pub mod Line
-pub mod Text

@@ -1,6 +1,6 @@
 -- The lines that the bench program writes, to the letter (document 01, "Bench program"), in ASCII.
 -- Assumes nothing.
-use Rattle.std.specs.Prelude.{ℕ, ◌+◌, Bool, true, false, List, [], ◌∷◌, ◌++◌, leb, length}
+use Rattle.std.specs.Prelude.{ℕ, ◌+◌, ◌≡◌, Bool, true, false, List, [], ◌∷◌, ◌++◌, leb, length}
 use Rattle.octets.specs.Bytes.{laid}
 use Rattle.octets.specs.Choice.{pick}
 use Rattle.records.specs.Decimal.{decimal}
@@ -65,3 +65,8 @@ put out at line = pick (leb (at + length line) (length out)) (laid out at line) 
 -- the place after a line; where it was not put, the place stays (a line has a byte at least)
 unfoldable pub place_after : (out : List ℕ) (at : ℕ) (line : List ℕ) → ℕ
 place_after out at line = pick (leb (at + length line) (length out)) (at + length line) at
+
+-- bytes laid from a place on, and the place behind them
+pub record Placed (before : List ℕ) (at : ℕ) (bytes : List ℕ) (behind : ℕ) (after : List ℕ) : Type 0 where
+  pub place : behind ≡ at + length bytes
+  pub stored : after ≡ laid before at bytes

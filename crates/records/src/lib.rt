@@ -4,7 +4,6 @@
 mod decimal;
 mod line;
 mod record;
-mod text;
 
 pub use decimal::{count_digits, lay_decimal};
 pub use line::{LINE_ROOM, Line, put_last_line, put_line};

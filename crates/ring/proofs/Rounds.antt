@@ -2,17 +2,18 @@
 -- filled, and what is copied in one run or in two.
 -- Assumes nothing.
 use mathlib.Core.Path.{◌≡◌, ap, sym, ◌∙◌}
-use mathlib.Core.List.{List, ◌++◌, append_assoc, append-nil}
+use mathlib.Core.List.{List, [], ◌∷◌, ◌++◌, append_assoc, append-nil}
 use mathlib.Core.Logic.{⊎_elim}
 use Prim.Native.Nat.{ℕ, ◌+◌, ◌-◌, ◌≤◌, ◌<◌}
-use native.Mathlib.Nat.{zero-add}
+use native.Mathlib.Nat.{zero-add, add-sub_cancel_left}
 use native.Mathlib.Omega.{arith}
-use lib.ListN.{length, take, drop, length-append, length-take, length-drop, take-append-drop}
+use lib.ListN.{length, take, drop, replicate, take-append-drop}
+use lib.ListN.{length-append, length-take, length-drop, length-replicate}
+use Rattle.std.proofs.lemmas.List.{replicate_more}
 use lib.Seq.{take-append-le, drop-append-le, take-append-add, drop-append-add, take-take, drop-drop, take-add, take_at}
 use lib.Seq.{drop_at, take_all, length-take-le}
 use Rattle.octets.specs.Bytes.{laid, fronted}
-use borrow.Rule.Slice.PartMut.{put_mid}
-use Rattle.octets.proofs.Laid.{laid_fits, laid_front, laid-append, laid-length, laid_copied}
+use Rattle.octets.proofs.Laid.{laid_fits, laid_front, laid-append, laid-length}
 use Rattle.ring.specs.Numbers.{next_of}
 use Rattle.ring.specs.Round.{round_from, stored}
 use Rattle.ring.proofs.Numbers.{next_near, next_over, next_below, next_cases}
@@ -175,56 +176,77 @@ stored_straight ring p bytes h k =
     ∙ round_none (stored ring (next_of (length ring) 0 p) bytes)
     ∙ ap (λ (q : ℕ). stored ring q bytes) (next_near (length ring) 0 p (omega arith) ∙ zero-add p)
 
+-- one zero more behind others
+pub zero_more : (ring : List ℕ) (p k : ℕ) {l m : List ℕ} {q : ℕ} → p < length ring → k < length ring
+    → l ≡ stored ring p (replicate k 0) → q ≡ next_of (length ring) p k → m ≡ laid l q (0 ∷ [])
+    → m ≡ stored ring p (replicate (k + 1) 0)
+zero_more ring p k {l} {m} {q} h room f g e =
+    let zeros : List ℕ = replicate k 0 in
+    let long : length zeros ≡ k = length-replicate {A = ℕ} k 0 in
+    let size : length l ≡ length ring = ap length f ∙ stored-length ring p zeros (omega arith) in
+    let below = next_below (length ring) p k (omega arith) in
+    let place : q ≡ next_of (length ring) p (length zeros) = g ∙ ap (next_of (length ring) p) (sym long) in
+    e
+    ∙ stored_straight l q (0 ∷ []) (omega arith) (omega arith)
+    ∙ ap (λ (s : List ℕ). stored s q (0 ∷ [])) f
+    ∙ ap (λ (at : ℕ). stored (stored ring p zeros) at (0 ∷ [])) place
+    ∙ stored_stored ring p h zeros (0 ∷ []) (omega arith)
+    ∙ ap (stored ring p) (replicate_more k 0)
+
 -- `&s[m..]`, as it is lent
 lent_rest : (s : List ℕ) (m : ℕ) → take (length s - m) (drop m s) ≡ drop m s
 lent_rest s m = take_all (length s - m) (drop m s) (omega (arith, length-drop m s))
 
--- what runs over the end is copied in two
-pub stored_round : (ring : List ℕ) (p : ℕ) (bytes a b : List ℕ) → p < length ring → length bytes ≤ length ring
+-- what runs over the end is stored in two, as the two are lent
+pub stored_round : (ring : List ℕ) (p : ℕ) (bytes : List ℕ) → p < length ring → length bytes ≤ length ring
     → length ring - p < length bytes
-    → a ≡ take (length ring - p) bytes → b ≡ drop (length ring - p) bytes
-    → b ++ drop (length b) (put_mid p (length ring - p) ring a) ≡ stored ring p bytes
-unfolding fronted
-stored_round ring p bytes a b h k over ea eb =
+    → laid (laid ring p (take (length ring - p) bytes)) 0
+    (take (length bytes - (length ring - p)) (drop (length ring - p) bytes)) ≡ stored ring p bytes
+stored_round ring p bytes h k over =
     let m = length ring - p in
     let first : length (take m bytes) ≡ m = length-take-le m bytes (omega arith) in
     let second = length-drop m bytes in
     let size = stored-length ring p (take m bytes) (omega arith) in
     let front : next_of (length ring) p (length (take m bytes)) ≡ 0 =
     next_over (length ring) p (length (take m bytes)) (omega arith) (omega arith) ∙ omega arith in
-    rw (ea, eb, laid_copied ring p m (take m bytes) (sym first) (omega arith))
-    (sym (laid_front (laid ring p (take m bytes)) (drop m bytes) (omega (arith, laid-length ring p (take m bytes))))
-    ∙ ap (λ (s : List ℕ). laid s 0 (drop m bytes)) (stored_straight ring p (take m bytes) h (omega arith))
+    rw (lent_rest bytes m)
+    (ap (λ (s : List ℕ). laid s 0 (drop m bytes)) (stored_straight ring p (take m bytes) h (omega arith))
     ∙ stored_straight (stored ring p (take m bytes)) 0 (drop m bytes) (omega arith) (omega arith)
     ∙ ap (λ (q : ℕ). stored (stored ring p (take m bytes)) q (drop m bytes)) (sym front)
     ∙ stored_stored ring p h (take m bytes) (drop m bytes) (omega arith)
     ∙ ap (stored ring p) (take-append-drop m bytes))
 
--- and so what is copied out
-pub copied_round : (ring : List ℕ) (p n : ℕ) (out a b : List ℕ) → p ≤ length ring → n ≤ length ring → n ≤ length out
+-- so many bytes of the ring, laid to the front
+to_front : (ring : List ℕ) (p n : ℕ) (out : List ℕ) → n ≤ length ring → n ≤ length out
+    → laid out 0 (take n (round_from p ring)) ≡ fronted out (take n (round_from p ring))
+to_front ring p n out h k =
+    laid_front out (take n (round_from p ring))
+    (omega (arith, length-take n (round_from p ring), round-length p ring))
+
+-- what ends before the ring's end is copied in one run
+pub copied_straight : (ring : List ℕ) (p n : ℕ) (out : List ℕ) → p + n ≤ length ring → n ≤ length out
+    → laid out 0 (take (p + n - p) (drop p ring)) ≡ fronted out (take n (round_from p ring))
+unfolding round_from
+copied_straight ring p n out h k =
+    rw (add-sub_cancel_left p n)
+    (ap (laid out 0) (sym (take-append-le n (drop p ring) (take p ring) (omega (arith, length-drop p ring))))
+    ∙ to_front ring p n out (omega arith) k)
+
+-- what runs over the end in two
+pub copied_round : (ring : List ℕ) (p n : ℕ) (out : List ℕ) → p ≤ length ring → n ≤ length ring → n ≤ length out
     → length ring < p + n
-    → a ≡ take (length ring - p) (drop p ring) → b ≡ take (n - (length ring - p)) ring
-    → put_mid (length ring - p) (n - (length ring - p)) (a ++ drop (length ring - p) out) b
-    ≡ fronted out (take n (round_from p ring))
-unfolding round_from fronted
-copied_round ring p n out a b h k l over ea eb =
+    → laid (laid out 0 (take (length ring - p) (drop p ring))) (length ring - p)
+    (take (n - (length ring - p)) ring) ≡ fronted out (take n (round_from p ring))
+unfolding round_from
+copied_round ring p n out h k l over =
     let rest = drop p ring in
     let m = n - (length ring - p) in
-    let long : length ring - p ≡ length rest = sym (length-drop p ring) in
-    let split : length rest + m ≡ n = omega (arith, long) in
-    let whole : a ≡ rest = ea ∙ take_all (length ring - p) rest (omega (arith, long)) in
-    let front : rest ++ drop (length ring - p) out ≡ laid out 0 rest =
-    ap (λ (j : ℕ). rest ++ drop j out) long ∙ sym (laid_front out rest (omega (arith, long))) in
-    let fits : length (take m ring) ≡ m = length-take-le m ring (omega arith) in
-    let start : length ring - p ≡ 0 + length rest = omega (arith, long) in
-    let copied =
-    laid_copied (laid out 0 rest) (length ring - p) m (take m ring) (sym fits)
-    (omega (arith, laid-length out 0 rest)) in
-    rw (whole, eb, front, copied)
-    (ap (λ (j : ℕ). laid (laid out 0 rest) j (take m ring)) start
+    let long : length ring - p ≡ 0 + length rest = omega (arith, length-drop p ring) in
+    let split : length rest + m ≡ n = omega (arith, length-drop p ring) in
+    rw (lent_rest ring p)
+    (ap (λ (j : ℕ). laid (laid out 0 rest) j (take m ring)) long
     ∙ sym (laid-append out 0 rest (take m ring))
     ∙ ap (λ (s : List ℕ). laid out 0 (rest ++ s)) (sym (take-take m p ring (omega arith)))
     ∙ ap (laid out 0) (sym (take-append-add rest (take p ring) m))
-    ∙ ap (λ (j : ℕ). laid out 0 (take j (rest ++ take p ring))) split
-    ∙ laid_front out (take n (rest ++ take p ring))
-    (omega (arith, length-take n (rest ++ take p ring), round-length p ring)))
+    ∙ ap (λ (j : ℕ). laid out 0 (take j (round_from p ring))) split
+    ∙ to_front ring p n out k l)

@@ -78,11 +78,7 @@ fn fill(ring: &mut [u8], write: usize, packet: Apart)
         number::next(lent, write, 4 + packet.header.len()),
         packet.body,
     );
-    round::copy_in(
-        ring,
-        number::next(lent, write, 4 + size),
-        &[0; 3][..padding],
-    );
+    round::pad(ring, number::next(lent, write, 4 + size), padding);
 }
 
 // The header of Table 6 for a packet of `size` bytes, with MCTP's type.

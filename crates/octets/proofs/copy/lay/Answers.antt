@@ -1,24 +1,40 @@
--- `octets::copy::lay` meets its contract: all there is, or as much as fits.
+-- `octets::copy::lay` meets its contract: byte after byte, where all fit and where some fall off.
 -- Assumes nothing.
-use mathlib.Core.Path.{ap, sym, ◌∙◌}
+use lib.ListN.{length-set}
+use mathlib.Core.Path.{refl, sym, ◌∙◌}
+use native.Mathlib.Numerals.{add-one}
 use native.Mathlib.Omega.{arith}
-use lib.ListN.{length-take, length-drop}
 use Rattle.octets.specs.Bytes.{laid}
-use Rattle.octets.proofs.Laid.{laid_past, laid_copied, laid_cut}
+use Rattle.octets.proofs.Laid.{laid_past, laid_next, laid_cut}
 use Rattle.octets.proofs.copy.lay.Goals as goal
-
-pub returns-then-new-room : goal.returns-then-new-room
-returns-then-new-room c =
-    let copied = simp (length-take, length-drop) at c.copy_from_slice.ensures.len in
-    laid_copied c.args.out.now c.args.at _ _ (omega arith) (omega arith)
-    ∙ ap (laid c.args.out.now c.args.at) c.copy_from_slice.ensures.after
-
-pub returns-else-new-room : goal.returns-else-new-room
-returns-else-new-room c =
-    let copied = simp (length-take, length-drop) at c.copy_from_slice-else-new-room.ensures.len in
-    laid_copied c.args.out.now c.args.at _ _ (omega arith) (omega arith)
-    ∙ ap (laid c.args.out.now c.args.at) c.copy_from_slice-else-new-room.ensures.after
-    ∙ laid_cut c.args.out.now c.args.at c.args.new.now _ (omega arith)
 
 pub returns-else-at-out : goal.returns-else-at-out
 returns-else-at-out c = sym (laid_past _ _ _ c.if-at-out.false)
+
+pub loop-i-init : goal.loop-i-init
+unfolding laid
+loop-i-init c = (refl, refl)
+
+pub loop-i-preserved : goal.loop-i-preserved
+loop-i-preserved c =
+    let a = c.args in (
+      rw (c.loop-i.invariant.0, add-one) (laid_next a.out.now a.at a.new.now c.loop-i.i (omega arith)),
+      simp length-set c.loop-i.invariant.1,
+    )
+
+pub loop-k-init : goal.loop-k-init
+unfolding laid
+loop-k-init c = refl
+
+pub loop-k-preserved : goal.loop-k-preserved
+unfolding laid
+loop-k-preserved c =
+    let a = c.args in
+    let k = c.loop-k.k in
+    c.lay_byte.ensures
+    ∙ rw (c.loop-k.invariant, add-one) (laid_next a.out.now a.at a.new.now k (omega arith))
+
+pub returns-after-loop-k : goal.returns-after-loop-k
+returns-after-loop-k c =
+    let a = c.args in
+    c.loop-k.invariant ∙ laid_cut a.out.now a.at a.new.now c.loop-k.k (omega arith)

@@ -1,19 +1,29 @@
--- `records::line::put_last_line` meets its contract: what was made is the last line.
+-- `records::line::put_last_line` meets its contract.
 -- Assumes nothing.
-use Rattle.std.proofs.Common.{ap, ◌∙◌, ◌≡◌, List, ◌++◌, ℕ}
-use Rattle.records.specs.Line.{pair, last_line, put, place_after}
-use Rattle.records.proofs.Lines.{two_behind}
+use native.Mathlib.Omega.{arith}
+use Rattle.records.specs.Line.{last_line}
+use Rattle.records.proofs.Lines.{last_size, put_placed, put_no_room}
+use borrow.Author.Rules.{rules}
 use Rattle.records.proofs.line.put_last_line.Goals as goal
 
-pub returns : goal.returns
-unfolding last_line pair
-returns c =
+pub returns-then-out-at : goal.returns-then-out-at
+returns-then-out-at c =
     let a = c.args in
-    let made : c.as_bytes.result.now ≡ last_line a.arrivals a.packets =
-    c.as_bytes.ensures
-    ∙ two_behind _ _ _ _ _ _ _ c.named.ensures.letters c.named-2.ensures.letters c.end.ensures
-    ∙ ap (λ (l : List ℕ). l ++ last_line a.arrivals a.packets) c.new-text.ensures.letters in
-    record {
-      place = c.put.ensures.place ∙ ap (place_after a.out.now a.at) made;
-      output = c.put.ensures.output ∙ ap (put a.out.now a.at) made;
-    }
+    let none = put_no_room a.out.now a.at (last_line a.arrivals a.packets) (omega arith) in
+    search rules
+
+pub returns-then-pair_size-out : goal.returns-then-pair_size-out
+unfolding last_line
+returns-then-pair_size-out c =
+    let a = c.args in
+    let size = last_size a.arrivals a.packets in
+    let line = last_line a.arrivals a.packets in
+    let placed = put_placed a.out.now a.at line (omega arith) c.lay_pair.ensures in
+    search rules
+
+pub returns-else-pair_size-out : goal.returns-else-pair_size-out
+returns-else-pair_size-out c =
+    let a = c.args in
+    let size = last_size a.arrivals a.packets in
+    let none = put_no_room a.out.now a.at (last_line a.arrivals a.packets) (omega arith) in
+    search rules

@@ -1,11 +1,11 @@
 -- `ring::writing::fill` meets its contract: the ring's header, the packet's two pieces and the padding, stored one
 -- after the other, are stored as one.
 -- Assumes nothing.
-use mathlib.Core.Path.{◌≡◌, refl, ◌∙◌}
-use mathlib.Core.List.{List, [], ◌∷◌, ◌++◌, append_assoc}
-use Prim.Native.Nat.{ℕ, zero, suc, ◌+◌, ◌≤◌, ◌<◌}
+use mathlib.Core.Path.{◌≡◌, ◌∙◌}
+use mathlib.Core.List.{List, ◌++◌, append_assoc}
+use Prim.Native.Nat.{ℕ, ◌+◌, ◌≤◌}
 use native.Mathlib.Omega.{arith}
-use lib.ListN.{length, take, replicate, length-append, length-replicate}
+use lib.ListN.{length, replicate, length-append, length-replicate}
 use Rattle.octets.specs.Bytes.{laid}
 use Rattle.octets.specs.Words.{high_first, word_bytes}
 use Rattle.ring.specs.Numbers.{next_of}
@@ -14,16 +14,6 @@ use Rattle.ring.specs.Round.{stored}
 use Rattle.octets.proofs.Words.{word-length}
 use Rattle.ring.proofs.Rounds.{stored_straight, stored_stored}
 use Rattle.ring.proofs.writing.fill.Goals as goal
-
-abbrev zeros : List ℕ
-zeros = 0 ∷ 0 ∷ 0 ∷ []
-
-zeros_front : (n : ℕ) → n < 4 → take n zeros ≡ replicate n 0
-zeros_front zero h = refl
-zeros_front (suc zero) h = refl
-zeros_front (suc (suc zero)) h = refl
-zeros_front (suc (suc (suc zero))) h = refl
-zeros_front (suc (suc (suc (suc n)))) h = absurd (omega arith)
 
 module _ (ring : List ℕ) (p : ℕ) (straight : p + 4 ≤ length ring) where
   -- one piece more, stored where the n bytes before it end
@@ -37,7 +27,7 @@ module _ (ring : List ℕ) (p : ℕ) (straight : p + 4 ≤ length ring) where
         → q2 ≡ next_of (length ring) p (4 + length header)
         → q3 ≡ next_of (length ring) p (4 + size)
         → l0 ≡ laid ring p (word_bytes high_first word) → l1 ≡ stored l0 q1 header → l2 ≡ stored l1 q2 body
-        → l3 ≡ stored l2 q3 (take padding zeros) → l3 ≡ stored ring p (ring_bytes (header ++ body))
+        → l3 ≡ stored l2 q3 (replicate padding 0) → l3 ≡ stored ring p (ring_bytes (header ++ body))
     unfolding ring_bytes
     steps {size = size} {word = word} {padding = padding} es ew ep e1 e2 e3 f0 f1 f2 f3 =
         let w = word_bytes high_first word in
@@ -47,11 +37,10 @@ module _ (ring : List ℕ) (p : ℕ) (straight : p + 4 ≤ length ring) where
         let three : length (w ++ header ++ body) ≡ 4 + size =
         simp length-append (omega arith) in
         let long : length pad ≡ padding = length-replicate {A = ℕ} padding 0 in
-        let front : take padding zeros ≡ pad = zeros_front padding (omega arith) in
         let s0 = f0 ∙ stored_straight ring p w (omega arith) (omega arith) in
         let s1 = piece w header s0 four e1 (omega arith) f1 in
         let s2 = piece (w ++ header) body s1 two e2 (omega arith) f2 in
-        let s3 = piece (w ++ header ++ body) pad s2 three e3 (omega arith) (rw front at f3) in
+        let s3 = piece (w ++ header ++ body) pad s2 three e3 (omega arith) f3 in
         rw (length-append header body, ← es, ← ew, ← ep) (s3 ∙ simp append_assoc)
 
 pub returns : goal.returns
@@ -60,4 +49,4 @@ returns c =
     c.size-size.ensures.pieces
     c.header_for.ensures c.padding_for-padding.ensures c.next.ensures c.next-2.ensures
     c.next-3.ensures c.lay_word.ensures c.copy_in.ensures c.copy_in-2.ensures
-    c.copy_in-3.ensures
+    c.pad.ensures
