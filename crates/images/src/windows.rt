@@ -129,11 +129,13 @@ impl fmt::Display for ReadBack {
     fn fmt<W: fmt::Write>(&self, f: &mut fmt::Formatter<W>) -> fmt::Result {
         let seen = self.0;
         if seen.flags.state() == InterfaceState::NormalRuntime {
-            f.write_str("normal runtime, ")?;
+            f.write_str("normal runtime")?;
         } else {
-            f.write_str("not in normal runtime, ")?;
+            f.write_str("not in normal runtime")?;
         }
-        FourPointers(seen).fmt(f)?;
+        // between two answers the words are one piece, so the comma stands with the first pointer's words
+        write!(f, ", B2H read {} write {}", seen.b2h.read, seen.b2h.write)?;
+        write!(f, ", H2B read {} write {}", seen.h2b.read, seen.h2b.write)?;
         if seen.host_ready {
             write!(f, ", host ready")?;
         }

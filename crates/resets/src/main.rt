@@ -2,12 +2,15 @@
 #![tactic(auto)]
 
 mod names;
+mod output;
 mod phases;
 mod runs;
 
 use handshake::{ControllerPhase, HostPhase};
+use output::Output;
 use runs::{Asker, End, Run};
-use std::io;
+use std::fmt;
+use std::fmt::Write as _;
 
 // The page up to the rows of its first table.
 const FRONT: &str = "# The reset handshake
@@ -26,8 +29,10 @@ A row for each phase and flag state in which a step acts. No. is the number unde
 |---|---|---|---|---|---|---|
 ";
 
-// The page from its last heading on.
-const FIRMWARE: &str = "## What firmware adds
+// The page behind its last answer.
+const FIRMWARE: &str = " steps.
+
+## What firmware adds
 
 - An end looks at the flags once a turn, and makes one step by what it saw.
 - Before its step it drains the ring that it reads; the host not once it has set H_RST (003, Table 5, row 1011).
@@ -43,99 +48,123 @@ For the rest see [RULES.md](RULES.md#reset-handshake), [DECISIONS.md](DECISIONS.
 ";
 
 fn main(rt: HostRuntime) {
-    if let Err(error) = tell_page(rt) {
-        told::fail(rt, "resets: standard output", error);
-    }
+    let _ = tell_page(&mut Output(rt));
 }
 
-fn tell_page(rt: HostRuntime) -> io::Result<()> {
-    rt.print(FRONT)?;
-    tell_phases(rt)?;
-    tell_counts(rt)?;
-    tell_run(rt, "The host asks, and steps first", Asker::Host, End::Host)?;
-    tell_run(
-        rt,
-        "The controller asks, and steps first",
-        Asker::Controller,
-        End::Controller,
-    )?;
-    tell_run(
-        rt,
-        "Both ask, and the host steps first",
-        Asker::Both,
-        End::Host,
-    )?;
-    rt.print(FIRMWARE)
+// Between two answers the words are one piece, also where a heading stands among them.
+fn tell_page(out: &mut Output) -> fmt::Result {
+    out.write_str(FRONT)?;
+    tell_phases(out)?;
+    tell_counts(out)?;
+    tell_runs(out)?;
+    out.write_str(FIRMWARE)
 }
 
-fn tell_phases(rt: HostRuntime) -> io::Result<()> {
-    phases::show::<HostPhase>(rt)?;
-    phases::show::<ControllerPhase>(rt)?;
+fn tell_phases(out: &mut Output) -> fmt::Result {
+    phases::show::<HostPhase>(out)?;
+    phases::show::<ControllerPhase>(out)?;
     let host = phases::count::<HostPhase>();
     let controller = phases::count::<ControllerPhase>();
     let waits = host.waiting + controller.waiting;
     let all = host.all + controller.all;
-    print!(rt;
+    write!(
+        out,
         "
 In every other state the phase waits: it changes no flag and keeps its phase. That is so in {waits} of {all} pairs of a
 phase and a flag state.
 
 A number that is no phase is refused with 1: "
     )?;
-    phases::show_refused::<HostPhase>(rt)?;
-    print!(rt; " for the host, ")?;
-    phases::show_refused::<ControllerPhase>(rt)?;
-    print!(rt;
+    phases::show_refused::<HostPhase>(out)?;
+    write!(out, " for the host, ")?;
+    phases::show_refused::<ControllerPhase>(out)?;
+    write!(
+        out,
         " for the controller.
 
 An ask takes the host"
     )?;
-    phases::show_asks::<HostPhase>(rt)?;
-    print!(rt; " and the controller")?;
-    phases::show_asks::<ControllerPhase>(rt)?;
-    println!(rt;
-        ". It changes no other phase.
-"
-    )
+    phases::show_asks::<HostPhase>(out)?;
+    write!(out, " and the controller")?;
+    phases::show_asks::<ControllerPhase>(out)
 }
 
-fn tell_counts(rt: HostRuntime) -> io::Result<()> {
-    print!(rt;
-        "## Steps until both ends run in normal runtime again
+// Up to the last row of the counts.
+fn tell_counts(out: &mut Output) -> fmt::Result {
+    let by_host = count(Asker::Host);
+    let by_controller = count(Asker::Controller);
+    let by_both = count(Asker::Both);
+    write!(
+        out,
+        ". It changes no other phase.
+
+## Steps until both ends run in normal runtime again
 
 At 1010, with both ends in phase running, one end asks, or both do. Then they step in turn until the flags are 1010 and
 both phases are running. Every step counts, one that waits too.
 
 | | Host steps first | Controller steps first |
 |---|---|---|
-"
-    )?;
-    for (asks, asker) in [
-        ("Host asks", Asker::Host),
-        ("Controller asks", Asker::Controller),
-        ("Both ask", Asker::Both),
-    ] {
-        let host_first = Run::start(asker, End::Host).count();
-        let controller_first = Run::start(asker, End::Controller).count();
-        println!(rt; "| {asks} | {host_first} | {controller_first} |")?;
-    }
-    println!(rt; "")
+| Host asks | {} | {} |
+| Controller asks | {} | {} |
+| Both ask | {} | {}",
+        by_host.0, by_host.1, by_controller.0, by_controller.1, by_both.0, by_both.1
+    )
 }
 
-fn tell_run(rt: HostRuntime, heading: &str, asker: Asker, first: End) -> io::Result<()> {
-    print!(rt;
-        "## {heading}
+// Where the host steps first, and where the controller does.
+fn count(asker: Asker) -> (usize, usize) {
+    let host_first = Run::start(asker, End::Host).count();
+    let controller_first = Run::start(asker, End::Controller).count();
+    (host_first, controller_first)
+}
+
+// From behind the last count up to the last run's number of steps.
+fn tell_runs(out: &mut Output) -> fmt::Result {
+    write!(
+        out,
+        " |
+
+## The host asks, and steps first
 
 | Step | End | Phase | Sees | State by Table 5 | Does | Then |
 |---|---|---|---|---|---|---|
 "
     )?;
-    let run = Run::start(asker, first);
-    run.show(rt)?;
-    let steps = run.count();
-    println!(rt;
+    let host_asks = Run::start(Asker::Host, End::Host);
+    host_asks.show(out)?;
+    write!(
+        out,
         "
-That took {steps} steps.
-"
+That took {} steps.
+
+## The controller asks, and steps first
+
+| Step | End | Phase | Sees | State by Table 5 | Does | Then |
+|---|---|---|---|---|---|---|
+",
+        host_asks.count()
+    )?;
+    let controller_asks = Run::start(Asker::Controller, End::Controller);
+    controller_asks.show(out)?;
+    write!(
+        out,
+        "
+That took {} steps.
+
+## Both ask, and the host steps first
+
+| Step | End | Phase | Sees | State by Table 5 | Does | Then |
+|---|---|---|---|---|---|---|
+",
+        controller_asks.count()
+    )?;
+    let both_ask = Run::start(Asker::Both, End::Host);
+    both_ask.show(out)?;
+    write!(
+        out,
+        "
+That took {}",
+        both_ask.count()
     )
 }

@@ -1,7 +1,9 @@
 // Ends, phases, flags, states and changes in words.
+use arrayvec::ArrayString;
 use handshake::{ControllerPhase, HostPhase, Phase, Step};
 use mmbi::{Act, Change, Flags, InterfaceState};
 use std::fmt;
+use std::fmt::Write as _;
 
 // The phases of one end, by name.
 pub trait Named: Phase {
@@ -37,7 +39,7 @@ impl Named for ControllerPhase {
     }
 }
 
-// B_UP, B_RST, H_UP and H_RST, a digit each.
+// B_UP, B_RST, H_UP and H_RST, a digit each, in one piece.
 #[derive(Clone, Copy)]
 pub struct Digits(pub Flags);
 
@@ -48,7 +50,9 @@ impl fmt::Display for Digits {
         let b_rst = u8::from(flags.controller_reset);
         let h_up = u8::from(flags.host_up);
         let h_rst = u8::from(flags.host_reset);
-        write!(f, "{b_up}{b_rst}{h_up}{h_rst}")
+        let mut piece = ArrayString::<4>::new();
+        write!(piece, "{b_up}{b_rst}{h_up}{h_rst}")?;
+        f.write_str(piece.as_str())
     }
 }
 
@@ -69,23 +73,19 @@ pub fn state_name(state: InterfaceState) -> &'static str {
 }
 
 // What is done to which flags.
-#[derive(Clone, Copy)]
-pub struct Deed(pub Change);
-
-impl fmt::Display for Deed {
-    fn fmt<W: fmt::Write>(&self, f: &mut fmt::Formatter<W>) -> fmt::Result {
-        let (act, end) = match self.0 {
-            Change::Nothing => return f.write_str("waits"),
-            Change::Host(act) => (act, 'H'),
-            Change::Controller(act) => (act, 'B'),
-        };
-        match act {
-            Act::SetUp => write!(f, "sets {end}_UP"),
-            Act::ClearUp => write!(f, "clears {end}_UP"),
-            Act::SetReset => write!(f, "sets {end}_RST"),
-            Act::ClearReset => write!(f, "clears {end}_RST"),
-            Act::ClearBoth => write!(f, "clears {end}_UP and {end}_RST"),
-        }
+pub fn deed(change: Change) -> &'static str {
+    match change {
+        Change::Nothing => "waits",
+        Change::Host(Act::SetUp) => "sets H_UP",
+        Change::Host(Act::ClearUp) => "clears H_UP",
+        Change::Host(Act::SetReset) => "sets H_RST",
+        Change::Host(Act::ClearReset) => "clears H_RST",
+        Change::Host(Act::ClearBoth) => "clears H_UP and H_RST",
+        Change::Controller(Act::SetUp) => "sets B_UP",
+        Change::Controller(Act::ClearUp) => "clears B_UP",
+        Change::Controller(Act::SetReset) => "sets B_RST",
+        Change::Controller(Act::ClearReset) => "clears B_RST",
+        Change::Controller(Act::ClearBoth) => "clears B_UP and B_RST",
     }
 }
 
@@ -111,14 +111,14 @@ impl TableLine {
     }
 }
 
-// The line from the phase on.
+// The line from the phase on, with its end.
 impl fmt::Display for TableLine {
     fn fmt<W: fmt::Write>(&self, f: &mut fmt::Formatter<W>) -> fmt::Result {
         let phase = self.phase;
         let sees = Digits(self.sees);
         let state = state_name(self.sees.state());
-        let does = Deed(self.does);
+        let does = deed(self.does);
         let next = self.next;
-        write!(f, "{phase} | {sees} | {state} | {does} | {next} |")
+        write!(f, "{phase} | {sees} | {state} | {does} | {next} |\n")
     }
 }

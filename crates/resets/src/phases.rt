@@ -2,10 +2,12 @@
 ghost use Rattle.std.specs.Prelude.{◌≤◌};
 
 use crate::names::{Named, TableLine};
+use crate::output::Output;
 use handshake::Step;
 use mctp::Refusal;
 use mmbi::{Change, Flags};
-use std::io;
+use std::fmt;
+use std::fmt::Write as _;
 
 // The flag states, by the number whose binary digits they are.
 const FLAG_STATES: u8 = 16;
@@ -18,20 +20,20 @@ pub struct Pairs {
 }
 
 // A line for each pair in which a phase of this end acts.
-pub fn show<P: Named>(rt: HostRuntime) -> io::Result<()> {
+pub fn show<P: Named>(out: &mut Output) -> fmt::Result {
     for phase in (0..=u8::MAX).filter_map(|n| P::of_number(n).ok()) {
-        show_phase(rt, phase)?;
+        show_phase(out, phase)?;
     }
     Ok(())
 }
 
-fn show_phase<P: Named>(rt: HostRuntime, phase: P) -> io::Result<()> {
+fn show_phase<P: Named>(out: &mut Output, phase: P) -> fmt::Result {
     for digits in 0..FLAG_STATES {
         let flags = flags_of(digits);
         let step = phase.step(flags);
         if step != waiting(phase) {
             let line = TableLine::of(phase, flags, step);
-            println!(rt; "| {} | {} | {line}", line.end, phase.number())?;
+            write!(out, "| {} | {} | {line}", line.end, phase.number())?;
         }
     }
     Ok(())
@@ -55,22 +57,22 @@ pub fn count<P: Named>() -> Pairs
 }
 
 // The first number that is refused with 1, and the last.
-pub fn show_refused<P: Named>(rt: HostRuntime) -> io::Result<()> {
+pub fn show_refused<P: Named>(out: &mut Output) -> fmt::Result {
     let refused = |n: &u8| matches!(P::of_number(*n), Err(Refusal::Setup));
     let first = (0..=u8::MAX).find(refused);
     let last = (0..=u8::MAX).rfind(refused);
     if let (Some(first), Some(last)) = (first, last) {
-        print!(rt; "{first} to {last}")?;
+        write!(out, "{first} to {last}")?;
     }
     Ok(())
 }
 
 // Each phase that an ask changes, and what it makes of it.
-pub fn show_asks<P: Named>(rt: HostRuntime) -> io::Result<()> {
+pub fn show_asks<P: Named>(out: &mut Output) -> fmt::Result {
     for phase in (0..=u8::MAX).filter_map(|n| P::of_number(n).ok()) {
         let asked = phase.ask();
         if asked != phase {
-            print!(rt; " from {} to {}", phase.name(), asked.name())?;
+            write!(out, " from {} to {}", phase.name(), asked.name())?;
         }
     }
     Ok(())

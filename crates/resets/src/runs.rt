@@ -2,9 +2,11 @@
 ghost use Rattle.std.specs.Iterator.{at_most};
 
 use crate::names::{Named, TableLine};
+use crate::output::Output;
 use handshake::{ControllerPhase, HostPhase, Phase};
 use mmbi::Flags;
-use std::io;
+use std::fmt;
+use std::fmt::Write as _;
 
 // More steps than any run takes.
 const LIMIT: u8 = 20;
@@ -52,9 +54,9 @@ impl Run {
     }
 
     // A line for each step.
-    pub fn show(self, rt: HostRuntime) -> io::Result<()> {
+    pub fn show(self, out: &mut Output) -> fmt::Result {
         for (n, line) in (1u8..).zip(self) {
-            println!(rt; "| {n} | {} | {line}", line.end)?;
+            write!(out, "| {n} | {} | {line}", line.end)?;
         }
         Ok(())
     }
