@@ -22,7 +22,7 @@ fn main(rt: HostRuntime) {
         sent: Ok(Sent::nothing()),
     };
     if let Err(error) = bench.run() {
-        told::fail(rt, "bench: standard input", error);
+        told::fail!(rt, "bench: standard input", error);
     }
 }
 

@@ -34,7 +34,7 @@ pub fn send(rt: HostRuntime, before: Result<Sent, Unsent>, text: &[u8]) -> Resul
             bytes: sent.bytes.saturating_add(text.len() as u64),
         }),
         Err(error) => {
-            told::fail(rt, "bench: standard output", error);
+            told::fail!(rt, "bench: standard output", error);
             Err(Unsent(()))
         }
     }

@@ -1,11 +1,17 @@
--- The contract leaves no choice: a text has one reason.
+-- The contract leaves no choice: a text has one reason. No call asks anything first.
 -- Assumes nothing.
 use Rattle.std.proofs.Common.{rules, arith, ◌≡◌, ℕ, ◌+◌, ◌<◌, length, List, [], ◌++◌, take, drop, ⊎_elim, Bor}
 use Rattle.std.proofs.lemmas.List.{length-append}
 use Rattle.std.proofs.Math.Seq.{drop-append_seam, take-append_seam}
+use denote.RattleType.{RattleType}
 use contract.Lifetimes.{Lfts}
+use contract.BorrowLft.{◌⊑◌}
 use Rattle.told.specs.Reason.{IsReason, number_mark}
 use Rattle.told.proofs.failure.without_number.Reads as cut
+use Rattle.told.proofs.page.Page.new.Reads as new
+use Rattle.told.proofs.page.Page.section.Reads as section
+use Rattle.told.proofs.page.Page.line.Reads as line
+use Rattle.told.proofs.page.Page.end_line.Reads as end_line
 
 -- a reason is a front of the text
 front : (text a : List ℕ) → IsReason text a → (rest : List ℕ) × (text ≡ a ++ rest)
@@ -41,3 +47,11 @@ reason_determined text a b r s = search (
 pub without_number_determined : (κs : Lfts 1) (a : _) (r q : Bor (List ℕ)) (e f : _) → cut.Post κs a r e
     → cut.Post κs a q f → r.now ≡ q.now
 without_number_determined κs a r q e f p o = reason_determined _ _ _ p o
+
+-- Of the type of an answer a line asks only that it outlives the call, as Rust asks of every type parameter.
+pub no_requires : ((κs : Lfts 1) (a : _) → cut.Pre κs a)
+    × ((κs : Lfts 1) (a : _) → new.Pre κs a)
+    × ((κs : Lfts 2) (a : _) → section.Pre κs a)
+    × ((κs : Lfts 2) (a : _) → end_line.Pre κs a)
+    × ((D : RattleType) (L o d e : _) (κs : Lfts 4) (a : _) → κs.1.1.0 ⊑ D.lives → line.Pre D L o d e κs a)
+no_requires = ((λ κs a. tt), (λ κs a. tt), (λ κs a. tt), (λ κs a. tt), (λ D L o d e κs a h. h))

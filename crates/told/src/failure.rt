@@ -1,19 +1,25 @@
 // A failed read or write told on standard error, in the words of the system.
 ghost use Rattle.told.specs.Reason.{IsReason};
 
-use std::io;
-
 // What failed and why, without the system's number for it; with the number where no memory is left to cut it off.
-pub fn fail(rt: HostRuntime, what: &str, error: io::Error) {
-    match format!(in rt.alloc(); "{error}") {
-        Ok(whole) => {
-            let reason = without_number(whole.as_str());
-            let _ = eprintln!(rt; "{what}: {reason}");
+// No contract can say what standard error takes, and every public call of a library here has one. So this is a macro:
+// code of who tells, a program or a page.
+#[macro_export]
+macro_rules! fail {
+    ($rt:expr, $what:expr, $error:expr) => {{
+        let rt = $rt;
+        let what = $what;
+        let error = $error;
+        match format!(in rt.alloc(); "{error}") {
+            Ok(whole) => {
+                let reason = $crate::without_number(whole.as_str());
+                let _ = eprintln!(rt; "{what}: {reason}");
+            }
+            Err(_) => {
+                let _ = eprintln!(rt; "{what}: {error}");
+            }
         }
-        Err(_) => {
-            let _ = eprintln!(rt; "{what}: {error}");
-        }
-    }
+    }};
 }
 
 // The words before " (os error ", or all of them where none is.
@@ -29,6 +35,17 @@ pub fn without_number(error: &str) -> &str
 #[cfg(test)]
 mod tests {
     use super::*;
+    use std::io;
+    use std::test::Fail;
+
+    #[test]
+    fn failure_in_the_words_of_the_system(rt: HostRuntime) -> Result<(), Fail> {
+        let error = io::Error::from_raw_os_error(9);
+        let whole = format!(in rt.alloc(); "{error}")?;
+        assert_eq!(rt; without_number(whole.as_str()), "Bad file descriptor");
+        fail!(rt, "told: tried by its test", error);
+        Ok(())
+    }
 
     #[test]
     fn number_is_cut_off(rt: HostRuntime) {

@@ -1,6 +1,6 @@
 // Standard output, write by write. What can't be written is told on standard error, and what follows is written all the
 // same.
-use crate::failure::fail;
+use crate::fail;
 use std::io::Write as _;
 use std::{fmt, io};
 
@@ -14,7 +14,7 @@ pub struct Output {
 impl Output {
     pub fn note(self, written: io::Result<()>) {
         if let Err(error) = written {
-            fail(self.rt, self.name, error);
+            fail!(self.rt, self.name, error);
         }
     }
 }
