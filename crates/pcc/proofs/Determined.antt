@@ -11,6 +11,7 @@ use Rattle.octets.proofs.Choice.{determined}
 use Rattle.mctp.proofs.Refusals.{number_injective, number_positive}
 use Rattle.pcc.specs.declared.answer.Packet.{Packet}
 use Rattle.pcc.specs.Writing.{write_refusal, written_of}
+use Rattle.pcc.proofs.Answers.{Says}
 use Rattle.pcc.specs.Answers.{number_read, size_read, notify_read, number_written}
 use Rattle.pcc.proofs.reading.read.Reads as carrying
 use Rattle.pcc.proofs.reading.packet.Reads as packet
@@ -28,6 +29,10 @@ read_injective (Ok x) (Ok y) e s n = λ i. Ok (record { size = s i; notify = n i
 read_injective (Ok x) (Err why) e s n = absurd (omega (arith, number_positive why))
 read_injective (Err why) (Ok y) e s n = absurd (omega (arith, number_positive why))
 read_injective (Err why) (Err other) e s n = ap Err (number_injective why other e)
+
+-- What the laws of proofs/Answers take of an answer is what `read` promises of it.
+pub read_says : (κs : Lfts 1) (a r e : _) → carrying.Post κs a r e → Says 64 a.0.now a.1.0 r
+read_says κs a r e p = record { number = p.0; size = p.1.0; notify = p.1.1 }
 
 pub written_injective : (a b : Result Unit Refusal) → number_written a ≡ number_written b → a ≡ b
 written_injective (Ok x) (Ok y) e = refl

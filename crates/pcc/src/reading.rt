@@ -25,7 +25,7 @@ pub fn packet(region: &[u8], id: u32) -> &[u8]
 {
     match read(region, id) {
         Ok(packet) => part(region, packet.size),
-        Err(_) => &[],
+        Err(_) => part(region, 0),
     }
 }
 
@@ -64,7 +64,8 @@ fn read_within(most: usize, region: &[u8], id: u32) -> Result<Packet, Refusal>
     Ok(Packet { size, notify })
 }
 
-// The size of the packet that a region carries; every check has its line, in the order of document 01.
+// The size of the packet that a region carries; the checks in the order of document 01, those of one number in one
+// line.
 #[tactic(auto, unfolding(crate::specs::Reading::refusal_of, crate::specs::Reading::size_of))]
 fn check(most: usize, region: &[u8], id: u32) -> Result<usize, Refusal>
     ensures number { outcome_number result ≡ refusal_of most region.now id }

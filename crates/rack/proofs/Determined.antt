@@ -1,4 +1,5 @@
--- The contracts of the three calls leave no choice: two outcomes that one allows are equal, and so is every lent byte.
+-- The contracts of the three calls leave no choice: two outcomes that one allows are equal, and so is every lent byte;
+-- nor does what a carrier's refusal becomes.
 -- Assumes nothing.
 use mathlib.Core.Path.{◌≡◌, refl, ap}
 use mathlib.Core.List.{List}
@@ -19,6 +20,7 @@ use Rattle.rack.specs.Answers.{tells, AfterArrival, after_arrival, arrived_of}
 use Rattle.rack.proofs.path.from_smbus.Reads as smbus
 use Rattle.rack.proofs.path.from_pcc.Reads as pcc
 use Rattle.rack.proofs.path.from_ring.Reads as ring
+use Rattle.rack.proofs.answer.NoPacketFromRefusal.from.Reads as of_refusal
 
 -- what is told of an answer tells it from every other
 without_injective : (a b : NoPacket) → without a ≡ without b → a ≡ b
@@ -83,8 +85,14 @@ pub from_ring_determined : (κs : Lfts 3) (a r q e f : _) → ring.Post κs a r 
     × (e.1.1.0.now ≡ f.1.1.0.now)
 from_ring_determined κs a r q e f p o = (after_injective r q _ _ (determined p.0 o.0), determined p.1 o.1)
 
+-- What a carrier's refusal becomes leaves no choice either.
+pub of_refusal_determined : (κs : Lfts 0) (a : _) (r q : NoPacket) (e f : _) → of_refusal.Post κs a r e
+    → of_refusal.Post κs a q f → r ≡ q
+of_refusal_determined κs a r q e f p o = determined p o
+
 -- No call asks anything of its arguments first.
 pub no_requires : ((κs : Lfts 2) (a : _) → smbus.Pre κs a)
     × ((κs : Lfts 2) (a : _) → pcc.Pre κs a)
     × ((κs : Lfts 3) (a : _) → ring.Pre κs a)
-no_requires = ((λ κs a. tt), (λ κs a. tt), (λ κs a. tt))
+    × ((κs : Lfts 0) (a : _) → of_refusal.Pre κs a)
+no_requires = ((λ κs a. tt), (λ κs a. tt), (λ κs a. tt), (λ κs a. tt))

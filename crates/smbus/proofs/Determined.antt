@@ -12,6 +12,7 @@ use Rattle.octets.proofs.Choice.{determined}
 use Rattle.mctp.proofs.Refusals.{number_injective, number_positive}
 use Rattle.smbus.specs.declared.answer.Packet.{Packet}
 use Rattle.smbus.specs.Writing.{write_refusal, size_of, written_of}
+use Rattle.smbus.proofs.Answers.{Says}
 use Rattle.smbus.specs.Answers.{number_read, source_read, number_written, size_written}
 use Rattle.smbus.proofs.reading.packet.Reads as packet
 use Rattle.smbus.proofs.reading.refusal.Reads as refusal
@@ -27,6 +28,10 @@ read_injective (Ok x) (Ok y) n s = λ i. Ok (record { source = s i })
 read_injective (Ok x) (Err why) n s = absurd (omega (arith, number_positive why))
 read_injective (Err why) (Ok y) n s = absurd (omega (arith, number_positive why))
 read_injective (Err why) (Err other) n s = ap Err (number_injective why other n)
+
+-- What the laws of proofs/Answers take of an answer is what `read` promises of it.
+pub read_says : (κs : Lfts 1) (a r e : _) → carrying.Post κs a r e → Says 64 a.0.now a.1.0 r
+read_says κs a r e p = record { number = p.0; source = p.1 }
 
 pub written_injective : (a b : Result ℕ Refusal) → number_written a ≡ number_written b
     → size_written a ≡ size_written b

@@ -7,7 +7,7 @@ use native.Mathlib.Omega.{arith}
 use lib.Dec.{eqb}
 use lib.ListN.{length, get_or}
 use Rattle.octets.specs.Checks.{Check}
-use Rattle.octets.proofs.Checks.{none_failing, all_hold, tests}
+use Rattle.octets.proofs.Checks.{FailsAt, answer_at, first_failing_lem, none_failing, all_hold, tests}
 use Rattle.pec.specs.Remainder.{pec_of}
 use Rattle.smbus.specs.Reading.{end_of, before_end, read_order, refusal_of}
 
@@ -28,6 +28,10 @@ pub record Good (most : ℕ) (frame : List ℕ) (own : ℕ) : Type 0 where
 module _ (most : ℕ) (frame : List ℕ) (own : ℕ) where
   abbrev order : List (Check ℕ)
   order = read_order most frame own
+
+  pub refused_at : (i : ℕ) → FailsAt order i → refusal_of most frame own ≡ answer_at order 0 i
+  unfolding refusal_of
+  refused_at = first_failing_lem order 0
 
   pub good_number : Good most frame own → refusal_of most frame own ≡ 0
   unfolding refusal_of

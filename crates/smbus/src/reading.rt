@@ -22,7 +22,7 @@ pub fn packet(frame: &[u8], own: u8) -> &[u8]
 {
     match read(frame, own) {
         Ok(_) => part(frame),
-        Err(_) => &[],
+        Err(_) => &frame[..0],
     }
 }
 
@@ -49,8 +49,8 @@ pub fn part(frame: &[u8]) -> &[u8]
     octets::part(frame, 4, frame.len().saturating_sub(5))
 }
 
-// Every check has its line, in the order of document 01; `own * 2` is our address with bit 0 clear. The PEC is worked
-// out once, and only where all else is right.
+// The checks stand in the order of document 01, those of one number in one line; `own * 2` is our address with bit 0
+// clear. The PEC is worked out once, and only where all else is right.
 #[tactic(auto, unfolding(crate::specs::Reading::refusal_of, crate::specs::Reading::source_address_of))]
 fn read_within(most: usize, frame: &[u8], own: u8) -> Result<Packet, Refusal>
     ensures number { number_read result ≡ refusal_of most frame.now own }

@@ -11,5 +11,5 @@ mod taking;
 pub use frame::{Framed, frame_line};
 pub use front::to_front;
 pub use last::last_line;
-pub use state::{State, set_up};
+pub use state::{ADDRESS, OWN, State, set_up};
 pub use taking::{Taken, chunk};
