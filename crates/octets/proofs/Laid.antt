@@ -9,7 +9,8 @@ use native.Mathlib.Nat.{add-zero, zero-add, add-suc, suc-add}
 use native.Mathlib.Omega.{arith}
 use lib.ListN.{length, get_or, take, drop, set, length-set}
 use lib.Seq.{take-suc, sets-eq, length-sets, set_out, set_comm, length-take-le, get_or-set_other}
-use lib.Seq.{drop-set-lt, drop-set-add, take-set-le}
+use lib.Seq.{drop-drop, drop-set-lt, drop-set-add, take-set-le}
+use borrow.Rule.Slice.PartMut.{put_mid}
 use Rattle.octets.specs.Bytes.{part, laid, fronted}
 
 -- past the end nothing is stored
@@ -35,6 +36,17 @@ laid_next l at new i h =
     ∙ laid-append l at (take i new) (get_or new i 0 ∷ [])
     ∙ ap (λ (k : ℕ). set (laid l at (take i new)) (at + k) (get_or new i 0)) (length-take-le i new (omega arith)))
 
+-- four bytes one by one
+pub laid_four : (l : List ℕ) (at a b c d : ℕ)
+    → laid (laid (laid (laid l at (a ∷ [])) (at + 1) (b ∷ [])) (at + 2) (c ∷ [])) (at + 3) (d ∷ [])
+    ≡ laid l at (a ∷ b ∷ c ∷ d ∷ [])
+unfolding laid
+laid_four l at a b c d =
+    let one : at + 1 ≡ suc at = omega arith in
+    let two : at + 2 ≡ suc (suc at) = omega arith in
+    let three : at + 3 ≡ suc (suc (suc at)) = omega arith in
+    rw (one, two, three)
+
 -- what does not fit falls off
 pub laid_cut : (l : List ℕ) (at : ℕ) (new : List ℕ) (n : ℕ) → length l ≤ at + n → laid l at (take n new) ≡ laid l at new
 unfolding laid
@@ -48,6 +60,12 @@ pub laid_fits : (l : List ℕ) (at : ℕ) (new : List ℕ) → at + length new �
     → laid l at new ≡ take at l ++ (new ++ drop (at + length new) l)
 unfolding laid
 laid_fits l at new h = sets-eq new l at h ∙ append_assoc (take at l) new (drop (at + length new) l)
+
+-- what is copied into a part of its length is laid there
+pub laid_copied : (l : List ℕ) (at k : ℕ) (new : List ℕ) → k ≡ length new → at + length new ≤ length l
+    → put_mid at k l new ≡ laid l at new
+laid_copied l at k new e h =
+    rw (e, drop-drop (length new) at l) (sym (laid_fits l at new h))
 
 -- the length stays
 pub laid-length : (l : List ℕ) (at : ℕ) (new : List ℕ) → length (laid l at new) ≡ length l

@@ -3,7 +3,7 @@ ghost use Rattle.std.specs.Prelude.{◌≡◌};
 ghost use Rattle.octets.specs.Words.{Order, low_first, high_first, word_at, word_bytes};
 ghost use Rattle.octets.specs.Bytes.{laid};
 
-use crate::copy::lay;
+use crate::copy::lay_byte;
 use crate::read::{byte_at, part};
 
 // Which byte of a word stands first; the library's conversion for that order.
@@ -60,9 +60,22 @@ pub fn word_at<O: ByteOrder>(s: &[u8], at: usize) -> u32
     ])
 }
 
-// The word's four bytes laid over `out` from place `at` on.
+// The word's four bytes laid over `out` from place `at` on: one store where they fit. They are not laid by `lay`: of
+// four bytes at hand, of which some fall off, the compiler would make a call of memcpy.
 pub fn lay_word<O: ByteOrder>(out: &mut [u8], at: usize, w: u32)
     ensures { out.new ≡ laid out.old at (word_bytes O.order w) }
 {
-    lay(out, at, &O::bytes(w));
+    let bytes = O::bytes(w);
+    if out.len() <= at {
+        return;
+    }
+    if 4 <= out.len() - at {
+        out[at..at + 4].copy_from_slice(&bytes);
+    } else {
+        let [a, b, c, d] = bytes;
+        lay_byte(out, at, a);
+        lay_byte(out, at + 1, b);
+        lay_byte(out, at + 2, c);
+        lay_byte(out, at + 3, d);
+    }
 }
