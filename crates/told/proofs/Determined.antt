@@ -1,12 +1,14 @@
--- The contract leaves no choice: a text has one reason. No call asks anything first.
+-- The contracts leave no choice: a text has one reason, and a failure that is told has one answer. No call asks
+-- anything first.
 -- Assumes nothing.
-use Rattle.std.proofs.Common.{rules, arith, ◌≡◌, ℕ, ◌+◌, ◌<◌, length, List, [], ◌++◌, take, drop, ⊎_elim, Bor}
+use Rattle.std.proofs.Common.{rules, arith, sym, ◌∙◌, ◌≡◌, ℕ, ◌+◌, ◌<◌, length, List, [], ◌++◌, take, drop, ⊎_elim, Bor}
 use Rattle.std.proofs.lemmas.List.{length-append}
 use Rattle.std.proofs.Math.Seq.{drop-append_seam, take-append_seam}
 use denote.RattleType.{RattleType}
 use contract.Lifetimes.{Lfts}
 use contract.BorrowLft.{◌⊑◌}
 use Rattle.told.specs.Reason.{IsReason, number_mark}
+use Rattle.told.proofs.failure.fail.Reads as fail
 use Rattle.told.proofs.failure.without_number.Reads as cut
 use Rattle.told.proofs.page.Page.new.Reads as new
 use Rattle.told.proofs.page.Page.section.Reads as section
@@ -48,10 +50,21 @@ pub without_number_determined : (κs : Lfts 1) (a : _) (r q : Bor (List ℕ)) (e
     → cut.Post κs a q f → r.now ≡ q.now
 without_number_determined κs a r q e f p o = reason_determined _ _ _ p o
 
+pub fail_determined : (κs : Lfts 1) (a : _) (r q : Unit) (e f : _) → fail.Post κs a r e → fail.Post κs a q f → r ≡ q
+fail_determined κs a r q e f p o = p ∙ sym o
+
 -- Of the type of an answer a line asks only that it outlives the call, as Rust asks of every type parameter.
 pub no_requires : ((κs : Lfts 1) (a : _) → cut.Pre κs a)
     × ((κs : Lfts 1) (a : _) → new.Pre κs a)
     × ((κs : Lfts 2) (a : _) → section.Pre κs a)
     × ((κs : Lfts 2) (a : _) → end_line.Pre κs a)
     × ((D : RattleType) (L o d e : _) (κs : Lfts 4) (a : _) → κs.1.1.0 ⊑ D.lives → line.Pre D L o d e κs a)
-no_requires = ((λ κs a. tt), (λ κs a. tt), (λ κs a. tt), (λ κs a. tt), (λ D L o d e κs a h. h))
+    × ((κs : Lfts 1) (a : _) → fail.Pre κs a)
+no_requires = (
+  (λ κs a. tt),
+  (λ κs a. tt),
+  (λ κs a. tt),
+  (λ κs a. tt),
+  (λ D L o d e κs a h. h),
+  (λ κs a. tt),
+)

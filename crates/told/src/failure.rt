@@ -1,9 +1,11 @@
 // A failed read or write told on standard error, in the words of the system.
+ghost use Rattle.std.specs.Prelude.{◌≡◌};
 ghost use Rattle.told.specs.Reason.{IsReason};
 
+use std::io;
+
 // What failed and why, without the system's number for it; with the number where no memory is left to cut it off.
-// No contract can say what standard error takes, and every public call of a library here has one. So this is a macro:
-// code of who tells, a program or a page.
+// No contract can say what standard error takes. So what the programs use is a macro: code of who tells.
 #[macro_export]
 macro_rules! fail {
     ($rt:expr, $what:expr, $error:expr) => {{
@@ -22,6 +24,13 @@ macro_rules! fail {
     }};
 }
 
+// The same by a call. That it asks nothing and returns, whatever failed, is all that a contract can say of it.
+pub fn fail(rt: HostRuntime, what: &str, error: io::Error)
+    ensures { result ≡ tt }
+{
+    fail!(rt, what, error);
+}
+
 // The words before " (os error ", or all of them where none is.
 pub fn without_number(error: &str) -> &str
     ensures { IsReason error.now result.now }
@@ -35,7 +44,6 @@ pub fn without_number(error: &str) -> &str
 #[cfg(test)]
 mod tests {
     use super::*;
-    use std::io;
     use std::test::Fail;
 
     #[test]
@@ -44,6 +52,15 @@ mod tests {
         let whole = format!(in rt.alloc(); "{error}")?;
         assert_eq!(rt; without_number(whole.as_str()), "Bad file descriptor");
         fail!(rt, "told: tried by its test", error);
+        Ok(())
+    }
+
+    #[test]
+    fn failure_told_by_a_call(rt: HostRuntime) -> Result<(), Fail> {
+        let error = io::Error::from_raw_os_error(28);
+        let whole = format!(in rt.alloc(); "{error}")?;
+        assert_eq!(rt; without_number(whole.as_str()), "No space left on device");
+        fail(rt, "told: called by its test", error);
         Ok(())
     }
 

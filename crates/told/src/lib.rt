@@ -8,5 +8,5 @@ mod output;
 mod page;
 
 pub use answer::{Answer, Good, PccPacket, Refused, SmbusPacket};
-pub use failure::without_number;
+pub use failure::{fail, without_number};
 pub use page::Page;
